@@ -1,0 +1,4 @@
+pub mod Bools
+pub mod Sets
+pub mod Sizes
+pub mod Words

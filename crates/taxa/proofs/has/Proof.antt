@@ -1,0 +1,17 @@
+use Rattle.taxa.specs.Sets.{has}
+use borrow.Author.Needs.{needs}
+use Rattle.taxa.proofs.has.Statement.{statement}
+use Rattle.taxa.proofs.has.Tie as tie
+use Rattle.taxa.proofs.has.Reads as reads
+use Rattle.taxa.proofs.has.Lts as lts
+
+shr-result : tie.Need-shr-result
+shr-result c = search needs
+
+returns : tie.Need-returns
+unfolding has
+returns c =
+    search needs
+
+pub has-spec : {M : Type 1} → statement M
+has-spec = tie.close (tie.spec shr-result returns)

@@ -1,0 +1,17 @@
+use native.Mathlib.Nat.{one-mul, mod-eq-of-lt}
+use lib.Pow.{pow-lt}
+use borrow.Author.Needs.{needs}
+use Rattle.taxa.proofs.only.Statement.{statement}
+use Rattle.taxa.proofs.only.Tie as tie
+use Rattle.taxa.proofs.only.Reads as reads
+use Rattle.taxa.proofs.only.Lts as lts
+
+shl-result : tie.Need-shl-result
+shl-result c = search needs
+
+returns : tie.Need-returns
+returns c =
+    rw one-mul (mod-eq-of-lt (pow-lt (c .pre)))
+
+pub only-spec : {M : Type 1} → statement M
+only-spec = tie.close (tie.spec shl-result returns)
