@@ -198,6 +198,9 @@ pub and-sub : (a b : ℕ) → bitAnd a b ≡ a → Sub a b
 unfolding Sub
 and-sub a b e i p = and-right (has a i) (has b i) (sym (has-and a b i) ∙ ap (λ (x : ℕ). has x i) e ∙ p)
 
+pub sub-lt : (n a b : ℕ) → Sub a b → b < 2 ^ n → a < 2 ^ n
+sub-lt n a b h l = native.Mathlib.Nat.lt-of-le-of-lt (subst (λ (x : ℕ). x ≤ b) (sub-and a b h) (lib.Bits.and-le-r a b)) l
+
 -- ---- the lowest member is one, and none is below it
 lowest-in : (n y i : ℕ) → i < n → has y i ≡ true → has y (trailingZeros n y) ≡ true
 unfolding trailingZeros

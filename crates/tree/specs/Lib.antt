@@ -1,0 +1,4 @@
+pub mod Tree
+pub mod Lists
+pub mod Splits
+pub mod Refusals
