@@ -130,13 +130,6 @@ unfolding same
 same-not true = refl
 same-not false = refl
 
-same-true : (p q : Bool) → same p q ≡ true → p ≡ q
-unfolding same
-same-true true true h = refl
-same-true true false h = absurd (false≢true h)
-same-true false true h = absurd (false≢true h)
-same-true false false h = refl
-
 -- The empty corner is the one that lies away from the other row in each set: c is s's colour at r′, c′ is s′'s colour at r.
 module _ (n : ℕ) (t : List ℕ) (r r′ s s′ : ℕ) (tab : Table n t) (h : r < rows n) (h′ : r′ < rows n) (d : r ≡ r′ → ⊥) (a : Parts n t r s) (b : Parts n t r′ s′) where
   f : ℕ → Bool

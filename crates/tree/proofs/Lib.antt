@@ -5,3 +5,5 @@ pub mod Colourings
 pub mod Lists
 pub mod SplitLaws
 pub mod Monotone
+pub mod RowCounts
+pub mod Forks

@@ -1,0 +1,199 @@
+-- Counting the rows that pass a test, and the rows at a node. Assumes nothing.
+use mathlib.Core.Path.{_≡_, refl, sym, ap, ap₂, _∙_, subst}
+use mathlib.Core.Logic.{_⊎_, inl, inr}
+use mathlib.Core.Bool.{Bool, true, false, not, _&&_, _||_, true≢false, false≢true, and-true}
+use mathlib.Core.List.{List, [], _∷_, _++_}
+use Prim.Native.Nat.{ℕ, zero, suc, _+_, _*_, _≤_, _<_, zero-le}
+use native.Mathlib.Nat.{le-refl}
+use native.Mathlib.Decide.{le-ind}
+use native.Mathlib.Omega.{arith}
+use lib.Dec.{eqb}
+use lib.Arith.{lt-of-le-ne}
+use lib.ListN.{length, length-append}
+use borrow.Author.Tests.{eqb-true, eqb-false, ne-eqb, eq-eqb, not-true}
+use Rattle.taxa.specs.Sets.{pick, tally}
+use Rattle.taxa.proofs.Bools.{either, and-left, and-right, and-both}
+use Rattle.tree.specs.Tree.{rows, nodes, touches, rowsAt, others, every, count, Valid}
+
+-- ---- a test of every number
+pub every-all : (f : ℕ → Bool) (k : ℕ) → every f k ≡ true → (r : ℕ) → r < k → f r ≡ true
+unfolding every
+every-all f zero h r l = absurd (omega arith)
+every-all f (suc k) h r l = go (λ l′. every-all f k (and-left (every f k) (f k) h) r l′) (either (eqb r k))
+  where
+    go : (r < k → f r ≡ true) → (eqb r k ≡ true) ⊎ (eqb r k ≡ false) → f r ≡ true
+    go ih (inl w) = ap f (eqb-true r k w) ∙ and-right (every f k) (f k) h
+    go ih (inr w) = ih (lt-of-le-ne (omega arith) (eqb-false r k w))
+
+pub all-every : (f : ℕ → Bool) (k : ℕ) → ((r : ℕ) → r < k → f r ≡ true) → every f k ≡ true
+unfolding every
+all-every f zero h = refl
+all-every f (suc k) h = and-both (every f k) (f k) (all-every f k (λ r l. h r (omega arith))) (h k (le-refl (suc k)))
+
+pub not-every : (f : ℕ → Bool) (k r : ℕ) → r < k → f r ≡ false → every f k ≡ false
+not-every f k r l h = go (either (every f k))
+  where
+    go : (every f k ≡ true) ⊎ (every f k ≡ false) → every f k ≡ false
+    go (inl p) = absurd (true≢false (sym (every-all f k p r l) ∙ h))
+    go (inr p) = p
+
+-- ---- counting
+abbrev pub but : (ℕ → Bool) → ℕ → ℕ → Bool
+but P e r = P r && not (eqb r e)
+
+pub count-same : (P Q : ℕ → Bool) (k : ℕ) → ((r : ℕ) → r < k → P r ≡ Q r) → count P k ≡ count Q k
+unfolding count
+count-same P Q zero h = refl
+count-same P Q (suc k) h = ap₂ (λ (b : Bool) (n : ℕ). tally b + n) (h k (le-refl (suc k))) (count-same P Q k (λ r l. h r (omega arith)))
+
+pub but-other : (P : ℕ → Bool) (e r : ℕ) → (r ≡ e → ⊥) → but P e r ≡ P r
+but-other P e r d = ap (λ (b : Bool). P r && not b) (ne-eqb r e d) ∙ and-true (P r)
+
+pub count-drop : (P : ℕ → Bool) (e k : ℕ) → P e ≡ true → e < k → count P k ≡ suc (count (but P e) k)
+unfolding count
+count-drop P e zero p h = absurd (omega arith)
+count-drop P e (suc k) p h = go (λ l. count-drop P e k p l) (either (eqb k e))
+  where
+    go : (e < k → count P k ≡ suc (count (but P e) k)) → (eqb k e ≡ true) ⊎ (eqb k e ≡ false)
+        → tally (P k) + count P k ≡ suc (tally (but P e k) + count (but P e) k)
+    go ih (inl w) =
+        let here : P k ≡ true = ap P (eqb-true k e w) ∙ p in
+        let rest : count P k ≡ count (but P e) k = count-same P (but P e) k (λ r l. sym (but-other P e r (λ d. omega (arith, eqb-true k e w)))) in
+        rw (here, w) (omega arith)
+    go ih (inr w) =
+        let same : but P e k ≡ P k = but-other P e k (eqb-false k e w) in
+        rw same (omega (arith, ih (lt-of-le-ne (omega arith) (λ d. eqb-false k e w (sym d)))))
+
+pub count-find : (P : ℕ → Bool) (k : ℕ) → 0 < count P k → (r : ℕ) × (r < k) × (P r ≡ true)
+unfolding count
+count-find P zero h = absurd (omega arith)
+count-find P (suc k) h = go (count-find P k) (P k) refl h
+  where
+    go : (0 < count P k → (r : ℕ) × (r < k) × (P r ≡ true)) → (b : Bool) → P k ≡ b → 0 < tally b + count P k → (r : ℕ) × (r < suc k) × (P r ≡ true)
+    go ih true e h = (k, le-refl (suc k), e)
+    go ih false e h = let w = ih (omega arith) in (w .0, omega (arith, w .1), w .2)
+
+pub count-none : (P : ℕ → Bool) (k : ℕ) → count P k ≡ 0 → (r : ℕ) → r < k → P r ≡ true → ⊥
+count-none P k e r h p = omega (arith, count-drop P r k p h)
+
+-- of three rows that pass, with two of them given, the third, and that there is no other
+pub third : (P : ℕ → Bool) (m e x : ℕ) → count P m ≡ 3 → e < m → x < m → (e ≡ x → ⊥) → P e ≡ true → P x ≡ true
+    → (f : ℕ) × (f < m) × (P f ≡ true) × (f ≡ e → ⊥) × (f ≡ x → ⊥)
+    × ((r : ℕ) → r < m → (r ≡ e → ⊥) → (r ≡ x → ⊥) → (r ≡ f → ⊥) → P r ≡ true → ⊥)
+third P m e x three he hx d pe px =
+    let P₁ = but P e in
+    let P₂ = but P₁ x in
+    let px₁ : P₁ x ≡ true = but-other P e x (λ w. d (sym w)) ∙ px in
+    let two : count P₁ m ≡ 2 = omega (arith, count-drop P e m pe he) in
+    let one : count P₂ m ≡ 1 = omega (arith, count-drop P₁ x m px₁ hx) in
+    let w = count-find P₂ m (omega arith) in
+    let zero : count (but P₂ (w .0)) m ≡ 0 = omega (arith, count-drop P₂ (w .0) m (w .2) (w .1)) in
+    let pf₁ : P₁ (w .0) ≡ true = and-left (P₁ (w .0)) (not (eqb (w .0) x)) (w .2) in (
+      w .0,
+      w .1,
+      and-left (P (w .0)) (not (eqb (w .0) e)) pf₁,
+      eqb-false (w .0) e (not-true (eqb (w .0) e) (and-right (P (w .0)) (not (eqb (w .0) e)) pf₁)),
+      eqb-false (w .0) x (not-true (eqb (w .0) x) (and-right (P₁ (w .0)) (not (eqb (w .0) x)) (w .2))),
+      λ r l a b c p. count-none (but P₂ (w .0)) m zero r l (but-other P₂ (w .0) r c ∙ but-other P₁ x r b ∙ but-other P e r a ∙ p),
+    )
+
+pub count-step : (P : ℕ → Bool) (k : ℕ) → count P k ≤ count P (suc k)
+unfolding count
+count-step P k = omega arith
+
+pub count-mono : (P : ℕ → Bool) (j k : ℕ) → j ≤ k → count P j ≤ count P k
+count-mono P j k h = le-ind (λ (k : ℕ). count P j ≤ count P k) (le-refl (count P j)) (λ m l ih. omega (arith, ih, count-step P m)) k h
+
+pub count-yes : (P : ℕ → Bool) (k : ℕ) → P k ≡ true → count P (suc k) ≡ suc (count P k)
+unfolding count
+count-yes P k h = rw h (omega arith)
+
+-- ---- the list of the rows at p other than a
+module _ (t : List ℕ) (a p : ℕ) where
+  abbrev pub Other : ℕ → Bool
+  Other r = touches t r p && not (eqb r a)
+
+  others-none : (k : ℕ) → count Other k ≡ 0 → others t a p k ≡ []
+  unfolding others count
+  others-none zero h = refl
+  others-none (suc k) h = go (others-none k) (Other k) h
+    where
+      go : (count Other k ≡ 0 → others t a p k ≡ []) → (b : Bool) → tally b + count Other k ≡ 0 → pick b (others t a p k ++ k ∷ []) (others t a p k) ≡ []
+      go ih true h = absurd (omega arith)
+      go ih false h = ih (omega arith)
+
+  others-one : (k : ℕ) → count Other k ≡ 1 → (f : ℕ) × (f < k) × (Other f ≡ true) × (others t a p k ≡ f ∷ [])
+  unfolding others count
+  others-one zero h = absurd (omega arith)
+  others-one (suc k) h = go (others-one k) (Other k) refl h
+    where
+      go : (count Other k ≡ 1 → (f : ℕ) × (f < k) × (Other f ≡ true) × (others t a p k ≡ f ∷ [])) → (b : Bool) → Other k ≡ b → tally b + count Other k ≡ 1
+          → (f : ℕ) × (f < suc k) × (Other f ≡ true) × (pick b (others t a p k ++ k ∷ []) (others t a p k) ≡ f ∷ [])
+      go ih true e h = (k, le-refl (suc k), e, ap (λ (l : List ℕ). l ++ k ∷ []) (others-none k (omega arith)))
+      go ih false e h = let w = ih (omega arith) in (w .0, omega (arith, w .1), w .2, w .3)
+
+  others-two : (k : ℕ) → count Other k ≡ 2 → (f g : ℕ) × (f < g) × (g < k) × (Other f ≡ true) × (Other g ≡ true) × (others t a p k ≡ f ∷ g ∷ [])
+  unfolding others count
+  others-two zero h = absurd (omega arith)
+  others-two (suc k) h = go (others-two k) (Other k) refl h
+    where
+      go : (count Other k ≡ 2 → (f g : ℕ) × (f < g) × (g < k) × (Other f ≡ true) × (Other g ≡ true) × (others t a p k ≡ f ∷ g ∷ []))
+          → (b : Bool) → Other k ≡ b → tally b + count Other k ≡ 2
+          → (f g : ℕ) × (f < g) × (g < suc k) × (Other f ≡ true) × (Other g ≡ true) × (pick b (others t a p k ++ k ∷ []) (others t a p k) ≡ f ∷ g ∷ [])
+      go ih true e h =
+          let w = others-one k (omega arith) in
+          (w .0, k, w .1, le-refl (suc k), w .2, e, ap (λ (l : List ℕ). l ++ k ∷ []) (w .3))
+      go ih false e h = let w = ih (omega arith) in (w .0, w .1, w .2, omega (arith, w .3), w .4, w .5, w .6)
+
+-- ---- an inner node and one of its rows: the other two
+pub record Pair (n : ℕ) (t : List ℕ) (a p f g : ℕ) : Type 0 where
+  pub fg : f < g
+  pub f-lt : f < rows n
+  pub g-lt : g < rows n
+  pub f-p : touches t f p ≡ true
+  pub g-p : touches t g p ≡ true
+  pub fa : f ≡ a → ⊥
+  pub ga : g ≡ a → ⊥
+  pub list : others t a p (rows n) ≡ f ∷ g ∷ []
+  pub only : (r : ℕ) → r < rows n → (r ≡ a → ⊥) → (r ≡ f → ⊥) → (r ≡ g → ⊥) → touches t r p ≡ true → ⊥
+
+pub pair : (n : ℕ) (t : List ℕ) (a p : ℕ) → Valid n t → a < rows n → touches t a p ≡ true → n ≤ p → p < nodes n → (f g : ℕ) × Pair n t a p f g
+pair n t a p v ha ta ip lp =
+    let P : ℕ → Bool = λ r. touches t r p in
+    let two : count (but P a) (rows n) ≡ 2 = omega (arith, count-drop P a (rows n) ta ha, v .inner p ip lp) in
+    let w = others-two t a p (rows n) two in
+    let f = w .0 in
+    let g = w .1 in
+    let one : count (but (but P a) f) (rows n) ≡ 1 = omega (arith, count-drop (but P a) f (rows n) (w .4) (omega (arith, w .2, w .3))) in
+    let none : count (but (but (but P a) f) g) (rows n) ≡ 0
+    = omega (arith, count-drop (but (but P a) f) g (rows n) (but-other (but P a) f g (λ e. omega (arith, w .2)) ∙ w .5) (w .3)) in (
+      f,
+      g,
+      record {
+        fg = w .2;
+        f-lt = omega (arith, w .2, w .3);
+        g-lt = w .3;
+        f-p = and-left (P f) (not (eqb f a)) (w .4);
+        g-p = and-left (P g) (not (eqb g a)) (w .5);
+        fa = eqb-false f a (not-true (eqb f a) (and-right (P f) (not (eqb f a)) (w .4)));
+        ga = eqb-false g a (not-true (eqb g a) (and-right (P g) (not (eqb g a)) (w .5)));
+        list = w .6;
+        only = λ r l ra rf rg h. count-none (but (but (but P a) f) g) (rows n) none r l
+            (but-other (but (but P a) f) g r rg ∙ but-other (but P a) f r rf ∙ but-other P a r ra ∙ h);
+      },
+    )
+
+-- ---- a taxon's row is its only one
+pub leaf-only : (n : ℕ) (t : List ℕ) (v e : ℕ) → Valid n t → v < n → e < rows n → touches t e v ≡ true → (r : ℕ) → r < rows n → touches t r v ≡ true → r ≡ e
+leaf-only n t v e vt lv le te r lr tr = go (either (eqb r e))
+  where
+    P : ℕ → Bool
+    P j = touches t j v
+
+    go : (eqb r e ≡ true) ⊎ (eqb r e ≡ false) → r ≡ e
+    go (inl q) = eqb-true r e q
+    go (inr q) =
+        absurd (count-none (but P e) (rows n) (omega (arith, count-drop P e (rows n) te le, vt .leaf v lv)) r lr (but-other P e r (eqb-false r e q) ∙ tr))
+
+pub leaf-row : (n : ℕ) (t : List ℕ) (v : ℕ) → Valid n t → v < n → (r : ℕ) × (r < rows n) × (touches t r v ≡ true)
+leaf-row n t v vt lv = count-find (λ r. touches t r v) (rows n) (omega (arith, vt .leaf v lv))
