@@ -7,3 +7,4 @@ pub mod SplitLaws
 pub mod Monotone
 pub mod RowCounts
 pub mod Forks
+pub mod RefusalLaws

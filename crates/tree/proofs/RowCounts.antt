@@ -12,8 +12,10 @@ use lib.Arith.{lt-of-le-ne}
 use lib.ListN.{length, length-append}
 use borrow.Author.Tests.{eqb-true, eqb-false, ne-eqb, eq-eqb, not-true}
 use Rattle.taxa.specs.Sets.{pick, tally}
+use native.Mathlib.Numerals.{add-one}
 use Rattle.taxa.proofs.Bools.{either, and-left, and-right, and-both}
-use Rattle.tree.specs.Tree.{rows, nodes, touches, rowsAt, others, every, count, Valid}
+use Rattle.taxa.proofs.Sizes.{tally-one}
+use Rattle.tree.specs.Tree.{lo, hi, rows, nodes, touches, others, every, count, Valid}
 
 -- ---- a test of every number
 pub every-all : (f : ℕ → Bool) (k : ℕ) → every f k ≡ true → (r : ℕ) → r < k → f r ≡ true
@@ -197,3 +199,29 @@ leaf-only n t v e vt lv le te r lr tr = go (either (eqb r e))
 
 pub leaf-row : (n : ℕ) (t : List ℕ) (v : ℕ) → Valid n t → v < n → (r : ℕ) × (r < rows n) × (touches t r v ≡ true)
 leaf-row n t v vt lv = count-find (λ r. touches t r v) (rows n) (omega (arith, vt .leaf v lv))
+
+-- ---- a row whose ends differ is at a node as often as its ends are that node
+pub touch-tally : (t : List ℕ) (r v : ℕ) → (lo t r ≡ hi t r → ⊥) → tally (touches t r v) ≡ tally (eqb (lo t r) v) + tally (eqb (hi t r) v)
+touch-tally t r v d = go (eqb (lo t r) v) (eqb (hi t r) v) refl refl
+  where
+    go : (p q : Bool) → eqb (lo t r) v ≡ p → eqb (hi t r) v ≡ q → tally (p || q) ≡ tally p + tally q
+    go true true a b = absurd (d (eqb-true (lo t r) v a ∙ sym (eqb-true (hi t r) v b)))
+    go true false a b = refl
+    go false true a b = refl
+    go false false a b = refl
+
+pub count-le : (P : ℕ → Bool) (k : ℕ) → count P k ≤ k
+unfolding count
+count-le P zero = le-refl 0
+count-le P (suc k) = omega (arith, count-le P k, tally-one (P k))
+
+-- ---- two tests that agree below k
+pub every-same : (f g : ℕ → Bool) (k : ℕ) → ((r : ℕ) → r < k → f r ≡ g r) → every f k ≡ every g k
+unfolding every
+every-same f g zero h = refl
+every-same f g (suc k) h = ap₂ _&&_ (every-same f g k (λ r l. h r (omega arith))) (h k (le-refl (suc k)))
+
+-- one number more, as a loop counts
+pub every-more : (f : ℕ → Bool) (i : ℕ) → every f i ≡ true → f i ≡ true → every f (i + 1) ≡ true
+unfolding every
+every-more f i h p = rw (add-one i) (and-both (every f i) (f i) h p)

@@ -6,8 +6,7 @@ use mathlib.Core.List.{List, [], _∷_, _++_}
 use lib.Dec.{eqb, ltb, leb}
 use lib.ListN.{length}
 use Rattle.taxa.specs.Most.{most}
-use Rattle.taxa.specs.Sets.{pick, has}
-use Rattle.tree.specs.Tree.{lo, hi, rows, nodes, degree, wanted, every, part, Valid}
+use Rattle.tree.specs.Tree.{rows, nodes, inOrder, rightDegree, fromZero, every, Valid}
 
 infixr 20 _else_
 pub data Check : Type 0 where
@@ -29,14 +28,21 @@ abbrev pub countChecks : ℕ → List Check
 countChecks n = ((leb 4 n && leb n most) else 1) ∷ []
 
 -- 2: the table is not 2(2n-3) numbers long. 3: a row has an end above 2n-3, or its first end is not the smaller.
--- 4: a node has the wrong number of rows. 5: a node cannot be reached from node 0.
-abbrev pub tableChecks : ℕ → List ℕ → List Check
-tableChecks n t =
+-- 4: a node has the wrong number of rows.
+abbrev pub rowChecks : ℕ → List ℕ → List Check
+rowChecks n t =
     (eqb (length t) (2 * rows n) else 2)
-    ∷ (every (λ r. ltb (lo t r) (hi t r) && leb (hi t r) (2 * n - 3)) (rows n) else 3)
-    ∷ (every (λ v. eqb (degree n t v) (wanted n v)) (nodes n) else 4)
-    ∷ (every (λ v. has (part n t (rows n) 0) v) (nodes n) else 5)
+    ∷ (every (inOrder n t) (rows n) else 3)
+    ∷ (every (rightDegree n t) (nodes n) else 4)
     ∷ []
+
+-- 5: a node cannot be reached from node 0.
+abbrev pub reachChecks : ℕ → List ℕ → List Check
+reachChecks n t = (every (fromZero n t) (nodes n) else 5) ∷ []
+
+-- The checks of a table, n being right: 2 to 5.
+abbrev pub tableChecks : ℕ → List ℕ → List Check
+tableChecks n t = rowChecks n t ++ reachChecks n t
 
 -- 6: a partition names a taxon n or above.
 abbrev pub partitionChecks : ℕ → ℕ → List Check
@@ -49,6 +55,14 @@ roomChecks need room = (leb need room else 11) ∷ []
 -- The checks of a tree: 1 to 5.
 abbrev pub treeChecks : ℕ → List ℕ → List Check
 treeChecks n t = countChecks n ++ tableChecks n t
+
+-- What the checks 1 to 4 say.
+abbrev pub rowSaid : ℕ → List ℕ → Said (Unit {0})
+rowSaid n t = judged (countChecks n ++ rowChecks n t) tt
+
+-- What the check of a tree says: that it is one, or a refusal.
+abbrev pub treeSaid : ℕ → List ℕ → Said (Unit {0})
+treeSaid n t = judged (treeChecks n t) tt
 
 -- A table that no check of a tree refuses.
 pub record Accepted (n : ℕ) (t : List ℕ) : Type 0 where

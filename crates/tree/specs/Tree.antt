@@ -3,7 +3,7 @@ use Prim.Native.Nat.{ℕ, zero, suc, _+_, _*_, _-_, _^_, _≤_, _<_}
 use mathlib.Core.Path.{_≡_}
 use mathlib.Core.Bool.{Bool, true, false, not, _&&_, _||_}
 use mathlib.Core.List.{List, [], _∷_, _++_}
-use lib.Dec.{eqb, ltb}
+use lib.Dec.{eqb, ltb, leb}
 use lib.ListN.{length, getD}
 use Rattle.taxa.specs.Sets.{pick, tally, has, add}
 
@@ -25,6 +25,10 @@ hi t r = getD t (2 * r + 1) 0
 -- Row r is at node v.
 abbrev pub touches : List ℕ → ℕ → ℕ → Bool
 touches t r v = eqb (lo t r) v || eqb (hi t r) v
+
+-- Row r's ends are nodes, the smaller first.
+abbrev pub inOrder : ℕ → List ℕ → ℕ → Bool
+inOrder n t r = ltb (lo t r) (hi t r) && leb (hi t r) (2 * n - 3)
 
 -- The end of row r that is not v.
 unfoldable pub far : List ℕ → ℕ → ℕ → ℕ
@@ -55,6 +59,10 @@ degree n t v = count (λ r. touches t r v) (rows n)
 abbrev pub wanted : ℕ → ℕ → ℕ
 wanted n v = pick (ltb v n) 1 3
 
+-- Node v is at as many rows as it must be.
+abbrev pub rightDegree : ℕ → List ℕ → ℕ → Bool
+rightDegree n t v = eqb (degree n t v) (wanted n v)
+
 -- ---- what can be reached
 
 -- Both ends of a row a-b, where one of them is in s.
@@ -81,9 +89,13 @@ pub data Chain (n : ℕ) (t : List ℕ) (e : ℕ) : ℕ → ℕ → Type 0 where
   up : {u v w : ℕ} (r : ℕ) → r < rows n → (r ≡ e → ⊥) → lo t r ≡ v → hi t r ≡ w → Chain n t e u v → Chain n t e u w
   down : {u v w : ℕ} (r : ℕ) → r < rows n → (r ≡ e → ⊥) → lo t r ≡ v → hi t r ≡ w → Chain n t e u w → Chain n t e u v
 
--- Every node can be reached from node 0. Row number `rows n` is no row, so none is taken away.
+-- Node v can be reached from node 0. Row number `rows n` is no row, so none is taken away.
+abbrev pub fromZero : ℕ → List ℕ → ℕ → Bool
+fromZero n t v = has (part n t (rows n) 0) v
+
+-- Every node can be reached from node 0.
 pub record Connected (n : ℕ) (t : List ℕ) : Type 0 where
-  pub reached : (v : ℕ) → v < nodes n → has (part n t (rows n) 0) v ≡ true
+  pub reached : (v : ℕ) → v < nodes n → fromZero n t v ≡ true
 
 -- ---- a valid table
 

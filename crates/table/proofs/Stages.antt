@@ -1,0 +1,44 @@
+-- What the checks 1 to 4 say at each test of the code. Assumes nothing.
+use mathlib.Core.Path.{_≡_, refl, sym, ap, _∙_}
+use mathlib.Core.Bool.{Bool, true, false, _&&_}
+use mathlib.Core.List.{List, [], _∷_}
+use Prim.Native.Nat.{ℕ, _*_, _-_, _≤_, _<_}
+use lib.Dec.{eqb, ltb, leb}
+use lib.ListN.{length}
+use borrow.Author.Tests.{le-leb, lt-leb, eq-eqb, ne-eqb}
+use Rattle.taxa.specs.Most.{most}
+use Rattle.taxa.proofs.Bools.{and-both, and-false-r}
+use Rattle.tree.specs.Tree.{rows, nodes, inOrder, rightDegree, every}
+use Rattle.tree.specs.Refusals.{_else_, gives, refuses, judged, rowChecks, rowSaid}
+use Rattle.tree.proofs.RefusalLaws.{judged-next, judged-fail}
+
+module _ (n : ℕ) (t : List ℕ) where
+  pub is-1-low : n < 4 → refuses 1 ≡ rowSaid n t
+  is-1-low h = sym (judged-fail (leb 4 n && leb n most) 1 (rowChecks n t) tt (ap (λ (b : Bool). b && leb n most) (lt-leb 4 n h)))
+
+  pub is-1-high : most < n → refuses 1 ≡ rowSaid n t
+  is-1-high h = sym (judged-fail (leb 4 n && leb n most) 1 (rowChecks n t) tt (ap (λ (b : Bool). leb 4 n && b) (lt-leb n most h) ∙ and-false-r (leb 4 n)))
+
+  module _ (big : 4 ≤ n) (few : n ≤ most) where
+    past-1 : rowSaid n t ≡ judged (rowChecks n t) (tt {0})
+    past-1 = judged-next (leb 4 n && leb n most) 1 (rowChecks n t) tt (and-both (leb 4 n) (leb n most) (le-leb 4 n big) (le-leb n most few))
+
+    pub is-2 : (length t ≡ 2 * rows n → ⊥) → refuses 2 ≡ rowSaid n t
+    is-2 h = sym (past-1 ∙ judged-fail (eqb (length t) (2 * rows n)) 2 _ tt (ne-eqb (length t) (2 * rows n) h))
+
+    module _ (len : length t ≡ 2 * rows n) where
+      past-2 : rowSaid n t ≡ judged ((every (inOrder n t) (rows n) else 3) ∷ (every (rightDegree n t) (nodes n) else 4) ∷ []) (tt {0})
+      past-2 = past-1 ∙ judged-next (eqb (length t) (2 * rows n)) 2 _ tt (eq-eqb (length t) (2 * rows n) len)
+
+      pub is-3 : every (inOrder n t) (rows n) ≡ false → refuses 3 ≡ rowSaid n t
+      is-3 h = sym (past-2 ∙ judged-fail (every (inOrder n t) (rows n)) 3 _ tt h)
+
+      past-3 : every (inOrder n t) (rows n) ≡ true → rowSaid n t ≡ judged ((every (rightDegree n t) (nodes n) else 4) ∷ []) (tt {0})
+      past-3 o = past-2 ∙ judged-next (every (inOrder n t) (rows n)) 3 _ tt o
+
+      pub is-4 : every (inOrder n t) (rows n) ≡ true → every (rightDegree n t) (nodes n) ≡ false → refuses 4 ≡ rowSaid n t
+      is-4 o h = sym (past-3 o ∙ judged-fail (every (rightDegree n t) (nodes n)) 4 [] tt h)
+
+      pub is-rowed : every (inOrder n t) (rows n) ≡ true → every (rightDegree n t) (nodes n) ≡ true → gives (tt {0}) ≡ rowSaid n t
+      unfolding judged
+      is-rowed o h = sym (past-3 o ∙ judged-next (every (rightDegree n t) (nodes n)) 4 [] tt h)

@@ -1,0 +1,23 @@
+use native.Mathlib.Omega.{arith}
+use Prim.Native.Nat.{_+_, _*_}
+use borrow.Author.Needs.{needs}
+use Rattle.table.proofs.lo.Statement.{statement}
+use Rattle.table.proofs.lo.Tie as tie
+use Rattle.table.proofs.lo.Reads as reads
+use Rattle.table.proofs.lo.Lts as lts
+
+mul-result : tie.Need-mul-result
+mul-result c = search needs
+
+shared-slice-read-result : tie.Need-shared-slice-read-result
+shared-slice-read-result c = search needs
+
+cast-result : tie.Need-cast-result
+cast-result c =
+    omega (arith, c .shared-slice-known .given (2 * c .before .args .r), c .shared-slice-known .given (2 * c .before .args .r + 1))
+
+returns : tie.Need-returns
+returns c = search needs
+
+pub lo-spec : {M : Type 1} → statement M
+lo-spec = tie.close (tie.spec mul-result shared-slice-read-result cast-result returns)

@@ -1,0 +1,171 @@
+// The tree table in bytes: its rows, the refusals of document 01, and the checks 1 to 4.
+ghost use Prim.Native.Nat.{ℕ, _+_, _*_, _-_, _<_, _≤_};
+ghost use mathlib.Core.Path.{_≡_};
+ghost use lib.Dec.{eqb};
+ghost use lib.ListN.{length, getD};
+ghost use Rattle.taxa.specs.Most.{most};
+ghost use Rattle.tree.specs.Tree as tree_spec;
+ghost use Rattle.tree.specs.Tree.{rows, nodes, inOrder, every};
+ghost use Rattle.tree.specs.Refusals.{rowSaid};
+ghost use Rattle.table.specs.Says.{numberOf, checkSays};
+ghost use Rattle.table.specs.Rowed.{Ordered, Counted};
+
+// The most nodes that a tree has.
+const NODES: usize = 126;
+
+// What a call is refused for, in the order of document 01's numbers, from 1.
+pub enum Refusal {
+    Count,
+    Length,
+    Ends,
+    Degree,
+    Unreached,
+    Partition,
+    Kind,
+    Row,
+    Misfit,
+    Idle,
+    Room,
+    Field,
+    Long,
+}
+
+// Document 01's number of a refusal.
+pub fn number(r: Refusal) -> u8
+    ensures { λ k. ⌜ k ≡ numberOf r ⌝ }
+{
+    match r {
+        Refusal::Count => 1,
+        Refusal::Length => 2,
+        Refusal::Ends => 3,
+        Refusal::Degree => 4,
+        Refusal::Unreached => 5,
+        Refusal::Partition => 6,
+        Refusal::Kind => 7,
+        Refusal::Row => 8,
+        Refusal::Misfit => 9,
+        Refusal::Idle => 10,
+        Refusal::Room => 11,
+        Refusal::Field => 12,
+        Refusal::Long => 13,
+    }
+}
+
+// What a check of a table says.
+pub enum Checked {
+    Tree,
+    Refused(Refusal),
+}
+
+// The first end of row r.
+pub fn lo(t: &[u8], r: usize) -> usize
+    requires { ⌜ 2 * r + 1 < length (now t) ⌝ }
+    ensures { λ v. ⌜ v ≡ tree_spec.lo (now (t .entry)) r ⌝ }
+{
+    t[2 * r] as usize
+}
+
+// The second end of row r.
+pub fn hi(t: &[u8], r: usize) -> usize
+    requires { ⌜ 2 * r + 1 < length (now t) ⌝ }
+    ensures { λ v. ⌜ v ≡ tree_spec.hi (now (t .entry)) r ⌝ }
+{
+    t[2 * r + 1] as usize
+}
+
+// The end of row r that is not v.
+pub fn far(t: &[u8], r: usize, v: usize) -> usize
+    requires { ⌜ 2 * r + 1 < length (now t) ⌝ }
+    ensures { λ w. ⌜ w ≡ tree_spec.far (now (t .entry)) r v ⌝ }
+{
+    let a = lo(t, r);
+    if a == v {
+        return hi(t, r);
+    }
+    a
+}
+
+// Whether each row's ends are nodes, the smaller first.
+fn ordered(n: usize, t: &[u8]) -> bool
+    requires { ⌜ (4 ≤ n) × (n ≤ most) × (length (now t) ≡ 2 * rows n) ⌝ }
+    ensures { λ b. ⌜ b ≡ every (inOrder n (now (t .entry))) (rows n) ⌝ }
+{
+    let m = 2 * n - 3;
+    let mut i: usize = 0;
+    while i < m {
+        let a = lo(t, i);
+        let b = hi(t, i);
+        if b <= a {
+            return false;
+        }
+        if m < b {
+            return false;
+        }
+        i += 1;
+    }
+    true
+}
+
+// At how many rows each node is.
+fn degrees(n: usize, t: &[u8]) -> [u8; NODES]
+    requires { ⌜ Ordered n (now t) ⌝ }
+    ensures { λ d. ⌜ Counted n (now (t .entry)) d (rows n) ⌝ }
+{
+    let mut d = [0u8; NODES];
+    let m = 2 * n - 3;
+    let mut i: usize = 0;
+    while i < m {
+        let a = lo(t, i);
+        let b = hi(t, i);
+        d[a] += 1;
+        d[b] += 1;
+        i += 1;
+    }
+    d
+}
+
+// At how many rows node v must be.
+fn wanted(n: usize, v: usize) -> u8
+    ensures { λ k. ⌜ k ≡ tree_spec.wanted n v ⌝ }
+{
+    if v < n { 1 } else { 3 }
+}
+
+// Whether each node is at as many rows as it must be.
+fn degrees_right(n: usize, d: &[u8; NODES]) -> bool
+    requires { ⌜ (4 ≤ n) × (n ≤ most) ⌝ }
+    ensures { λ b. ⌜ b ≡ every (λ v. eqb (getD (now (d .entry)) v 0) (tree_spec.wanted n v)) (nodes n) ⌝ }
+{
+    let m = 2 * n - 2;
+    let mut v: usize = 0;
+    while v < m {
+        if d[v] != wanted(n, v) {
+            return false;
+        }
+        v += 1;
+    }
+    true
+}
+
+// The checks 1 to 4.
+pub fn check_rows(n: usize, t: &[u8]) -> Checked
+    ensures { λ r. ⌜ checkSays r ≡ rowSaid n (now (t .entry)) ⌝ }
+{
+    if n < 4 {
+        return Checked::Refused(Refusal::Count);
+    }
+    if taxa::MOST < n {
+        return Checked::Refused(Refusal::Count);
+    }
+    if t.len() != 2 * (2 * n - 3) {
+        return Checked::Refused(Refusal::Length);
+    }
+    if !ordered(n, t) {
+        return Checked::Refused(Refusal::Ends);
+    }
+    let d = degrees(n, t);
+    if !degrees_right(n, &d) {
+        return Checked::Refused(Refusal::Degree);
+    }
+    Checked::Tree
+}
