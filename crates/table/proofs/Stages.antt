@@ -1,16 +1,18 @@
 -- What the checks 1 to 4 say at each test of the code. Assumes nothing.
 use mathlib.Core.Path.{_≡_, refl, sym, ap, _∙_}
 use mathlib.Core.Bool.{Bool, true, false, _&&_}
-use mathlib.Core.List.{List, [], _∷_}
+use mathlib.Core.List.{List, [], _∷_, _++_}
 use Prim.Native.Nat.{ℕ, _*_, _-_, _≤_, _<_}
 use lib.Dec.{eqb, ltb, leb}
 use lib.ListN.{length}
-use borrow.Author.Tests.{le-leb, lt-leb, eq-eqb, ne-eqb}
+use borrow.Author.Tests.{le-leb, lt-leb, leb-true, eq-eqb, ne-eqb, eqb-true}
 use Rattle.taxa.specs.Most.{most}
-use Rattle.taxa.proofs.Bools.{and-both, and-false-r}
+use Rattle.taxa.proofs.Bools.{and-left, and-right, and-both, and-false-r}
 use Rattle.tree.specs.Tree.{rows, nodes, inOrder, rightDegree, every}
-use Rattle.tree.specs.Refusals.{_else_, gives, refuses, judged, rowChecks, rowSaid}
-use Rattle.tree.proofs.RefusalLaws.{judged-next, judged-fail}
+use Rattle.tree.specs.Refusals.{_else_, gives, refuses, judged, countChecks, rowChecks, rowSaid}
+use Rattle.tree.proofs.RefusalLaws.{judged-next, judged-fail, gives-pass}
+use Rattle.table.specs.Rowed.{Rowed}
+use Rattle.table.proofs.Tallies.{ordered-of, rowed-of}
 
 module _ (n : ℕ) (t : List ℕ) where
   pub is-1-low : n < 4 → refuses 1 ≡ rowSaid n t
@@ -42,3 +44,13 @@ module _ (n : ℕ) (t : List ℕ) where
       pub is-rowed : every (inOrder n t) (rows n) ≡ true → every (rightDegree n t) (nodes n) ≡ true → gives (tt {0}) ≡ rowSaid n t
       unfolding judged
       is-rowed o h = sym (past-3 o ∙ judged-next (every (rightDegree n t) (nodes n)) 4 [] tt h)
+
+-- where the checks 1 to 4 refuse nothing, the table has its rows
+pub said-rowed : (n : ℕ) (t : List ℕ) → rowSaid n t ≡ gives tt → Rowed n t
+said-rowed n t h =
+    let p = gives-pass (countChecks n ++ rowChecks n t) tt tt h in
+    rowed-of n t
+    (ordered-of n t
+    (leb-true 4 n (and-left (leb 4 n) (leb n most) (p .0))) (leb-true n most (and-right (leb 4 n) (leb n most) (p .0)))
+    (eqb-true (length t) (2 * rows n) (p .1 .0)) (p .1 .1 .0))
+    (p .1 .1 .1 .0)

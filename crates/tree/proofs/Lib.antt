@@ -6,5 +6,10 @@ pub mod Lists
 pub mod SplitLaws
 pub mod Monotone
 pub mod RowCounts
+pub mod RowsAt
 pub mod Forks
 pub mod RefusalLaws
+pub mod ListCounts
+pub mod Growth
+pub mod DoubleLift
+pub mod Members

@@ -230,7 +230,7 @@ lost-distinct (x ∷ xs) ys d = go (lost-distinct xs ys (d .1)) (mem x ys)
     go ih true = ih
     go ih false = (not-mem x (lost xs ys) (λ q. true≢false (sym (lost-out xs ys x q .0) ∙ d .0)), ih)
 
-mem-append : (z : ℕ) (ls bs : List ℕ) → mem z (ls ++ bs) ≡ (mem z ls || mem z bs)
+pub mem-append : (z : ℕ) (ls bs : List ℕ) → mem z (ls ++ bs) ≡ (mem z ls || mem z bs)
 unfolding mem
 mem-append z [] bs = refl
 mem-append z (l ∷ ls) bs = ap (λ (b : Bool). eqb z l || b) (mem-append z ls bs) ∙ sym (or-assoc (eqb z l) (mem z ls) (mem z bs))

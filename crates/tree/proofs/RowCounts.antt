@@ -14,7 +14,7 @@ use borrow.Author.Tests.{eqb-true, eqb-false, ne-eqb, eq-eqb, not-true}
 use Rattle.taxa.specs.Sets.{pick, tally}
 use native.Mathlib.Numerals.{add-one}
 use Rattle.taxa.proofs.Bools.{either, and-left, and-right, and-both}
-use Rattle.taxa.proofs.Sizes.{tally-one}
+use Rattle.taxa.proofs.Sizes.{tally-le, tally-one}
 use Rattle.tree.specs.Tree.{lo, hi, rows, nodes, touches, others, every, count, Valid}
 
 -- ---- a test of every number
@@ -225,3 +225,14 @@ every-same f g (suc k) h = ap₂ _&&_ (every-same f g k (λ r l. h r (omega arit
 pub every-more : (f : ℕ → Bool) (i : ℕ) → every f i ≡ true → f i ≡ true → every f (i + 1) ≡ true
 unfolding every
 every-more f i h p = rw (add-one i) (and-both (every f i) (f i) h p)
+
+-- ---- a test that passes less often
+pub count-sub : (P Q : ℕ → Bool) (k : ℕ) → ((r : ℕ) → r < k → P r ≡ true → Q r ≡ true) → count P k ≤ count Q k
+unfolding count
+count-sub P Q zero h = le-refl 0
+count-sub P Q (suc k) h = omega (arith, tally-le (P k) (Q k) (h k (le-refl (suc k))), count-sub P Q k (λ r l. h r (omega arith)))
+
+pub count-less : (P Q : ℕ → Bool) (k i : ℕ) → ((r : ℕ) → r < k → P r ≡ true → Q r ≡ true) → i < k → P i ≡ false → Q i ≡ true → count P k < count Q k
+count-less P Q k i h l p q =
+    let s : count P k ≤ count (but Q i) k = count-sub P (but Q i) k (λ r m x. and-both (Q r) (not (eqb r i)) (h r m x) (ap not (ne-eqb r i (λ d. true≢false (sym x ∙ ap P d ∙ p))))) in
+    omega (arith, count-drop Q i k q l)

@@ -1,0 +1,3 @@
+pub mod NearLaws
+pub mod VisitLaws
+pub mod LookLaws

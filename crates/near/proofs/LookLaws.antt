@@ -1,0 +1,38 @@
+-- What the check of a tree says at each test of the code. Assumes nothing.
+use mathlib.Core.Path.{_≡_, refl, sym, ap, _∙_}
+use mathlib.Core.Bool.{Bool, true, false}
+use mathlib.Core.List.{List, [], _∷_, _++_}
+use Prim.Native.Nat.{ℕ}
+use native.Mathlib.Omega.{arith}
+use Rattle.tree.specs.Tree.{nodes, fromZero, every}
+use Rattle.tree.specs.Refusals.{_else_, Said, gives, refuses, judged, countChecks, rowChecks, reachChecks, rowSaid, treeSaid}
+use Rattle.tree.proofs.RefusalLaws.{judged-pass, judged-next, judged-fail, gives-pass, refuses-more}
+use Rattle.table.specs.Says.{checkSays}
+use Rattle.table.specs.declared.Checked.{Checked}
+use Rattle.near.specs.Near.{Near, Found}
+
+module _ (n : ℕ) (t : List ℕ) where
+  past-4 : rowSaid n t ≡ gives tt → treeSaid n t ≡ judged (reachChecks n t) (tt {0})
+  past-4 h = judged-pass (countChecks n ++ rowChecks n t) (reachChecks n t) tt (gives-pass (countChecks n ++ rowChecks n t) tt tt h)
+
+  is-tree : rowSaid n t ≡ gives tt → every (fromZero n t) (nodes n) ≡ true → gives (tt {0}) ≡ treeSaid n t
+  unfolding judged
+  is-tree h r = sym (past-4 h ∙ judged-next (every (fromZero n t) (nodes n)) 5 [] tt r)
+
+  is-5 : rowSaid n t ≡ gives tt → every (fromZero n t) (nodes n) ≡ false → refuses 5 ≡ treeSaid n t
+  is-5 h r = sym (past-4 h ∙ judged-fail (every (fromZero n t) (nodes n)) 5 [] tt r)
+
+  -- a refusal gives no tree
+  not-tree : (k : ℕ) (a : List ℕ) → refuses k ≡ treeSaid n t → treeSaid n t ≡ gives tt → Near n t a
+  not-tree k a h g = absurd (let z : _≡_ {A = ℕ} 0 1 = cc in omega arith)
+
+  pub found-rows : (c : Checked) (k : ℕ) (a : List ℕ) → rowSaid n t ≡ refuses k → checkSays c ≡ refuses k → Found n t c a
+  found-rows c k a h s =
+      let e : refuses k ≡ treeSaid n t = sym (refuses-more (countChecks n ++ rowChecks n t) (reachChecks n t) tt tt k h) in
+      record { says = s ∙ e; near = not-tree k a e }
+
+  pub found-tree : (c : Checked) (a : List ℕ) → rowSaid n t ≡ gives tt → every (fromZero n t) (nodes n) ≡ true → checkSays c ≡ gives tt → Near n t a → Found n t c a
+  found-tree c a h r s N = record { says = s ∙ is-tree h r; near = λ g. N }
+
+  pub found-5 : (c : Checked) (a : List ℕ) → rowSaid n t ≡ gives tt → every (fromZero n t) (nodes n) ≡ false → checkSays c ≡ refuses 5 → Found n t c a
+  found-5 c a h r s = let e = is-5 h r in record { says = s ∙ e; near = not-tree 5 a e }

@@ -1,0 +1,62 @@
+use Rattle.near.proofs.NearLaws.{hook-0, hook-1, hook-2}
+use borrow.Author.Needs.{needs}
+use Rattle.near.proofs.hook.Statement.{statement}
+use Rattle.near.proofs.hook.Tie as tie
+use Rattle.near.proofs.hook.Reads as reads
+use Rattle.near.proofs.hook.Lts as lts
+
+mul-p : tie.Need-mul-p
+mul-p c = search needs
+
+element-copy-out-if1 : tie.Need-element-copy-out-if1
+element-copy-out-if1 c = search needs
+
+element-write-a : tie.Need-element-write-a
+element-write-a c = search needs
+
+returns : tie.Need-returns
+returns c =
+    hook-0 (c .before .before .args .a .now) (c .before .before .args .v) (c .before .before .args .r) (c .if1 .taken)
+
+add-if2 : tie.Need-add-if2
+add-if2 c = search needs
+
+element-copy-out-if2 : tie.Need-element-copy-out-if2
+element-copy-out-if2 c = search needs
+
+add-a : tie.Need-add-a
+add-a c = search needs
+
+element-write-a-2 : tie.Need-element-write-a-2
+element-write-a-2 c = search needs
+
+returns-2 : tie.Need-returns-2
+returns-2 c =
+    hook-1 (c .before .before .before .before .args .a .now) (c .before .before .before .before .args .v) (c .before .before .before .before .args .r) (c .before .before .if1 .left) (c .if2 .taken)
+
+add-a-2 : tie.Need-add-a-2
+add-a-2 c = search needs
+
+element-write-a-3 : tie.Need-element-write-a-3
+element-write-a-3 c = search needs
+
+returns-3 : tie.Need-returns-3
+returns-3 c =
+    hook-2 (c .before .before .before .before .args .a .now) (c .before .before .before .before .args .v) (c .before .before .before .before .args .r) (c .before .before .if1 .left) (c .if2 .left)
+
+pub hook-spec : {M : Type 1} → statement M
+hook-spec =
+    tie.close
+    (tie.spec
+    mul-p
+    element-copy-out-if1
+    element-write-a
+    returns
+    add-if2
+    element-copy-out-if2
+    add-a
+    element-write-a-2
+    returns-2
+    add-a-2
+    element-write-a-3
+    returns-3)

@@ -1,0 +1,42 @@
+-- An array of the rows at each node, three places a node.
+use Prim.Native.Nat.{ℕ, zero, suc, _+_, _*_, _≤_, _<_}
+use mathlib.Core.Path.{_≡_}
+use mathlib.Core.List.{List, [], _∷_}
+use lib.Dec.{eqb}
+use lib.ListN.{length, getD, set}
+use Rattle.taxa.specs.Most.{most}
+use Rattle.taxa.specs.Sets.{pick}
+use Rattle.tree.specs.Tree.{rows, nodes, rowsAt}
+use Rattle.tree.specs.Refusals.{Said, gives, treeSaid}
+use Rattle.table.specs.Says.{checkSays}
+use Rattle.table.specs.declared.Checked.{Checked}
+
+-- a free place holds 255, which is no row
+abbrev pub free : ℕ
+free = 255
+
+-- r put in v's first free place of a
+unfoldable pub hooked : List ℕ → ℕ → ℕ → List ℕ
+hooked a v r =
+    pick (eqb (getD a (3 * v) 0) free) (set a (3 * v) r)
+    (pick (eqb (getD a (3 * v + 1) 0) free) (set a (3 * v + 1) r) (set a (3 * v + 2) r))
+
+-- a holds the row at each taxon and the three rows at each inner node, in order
+pub record Near (n : ℕ) (t a : List ℕ) : Type 0 where
+  pub room : length a ≡ 3 * nodes most
+  pub one : (v : ℕ) → v < n → rowsAt t v (rows n) ≡ getD a (3 * v + 0) 0 ∷ []
+  pub three : (v : ℕ) → n ≤ v → v < nodes n → rowsAt t v (rows n) ≡ getD a (3 * v + 0) 0 ∷ getD a (3 * v + 1) 0 ∷ getD a (3 * v + 2) 0 ∷ []
+
+-- of v's three places, the first that is not e, and the second
+abbrev pub otherFirst : ℕ → List ℕ → ℕ → ℕ
+otherFirst e a v = pick (eqb (getD a (3 * v + 0) 0) e) (getD a (3 * v + 1) 0) (getD a (3 * v + 0) 0)
+
+abbrev pub otherSecond : ℕ → List ℕ → ℕ → ℕ
+otherSecond e a v =
+    pick (eqb (getD a (3 * v + 0) 0) e) (getD a (3 * v + 2) 0)
+    (pick (eqb (getD a (3 * v + 1) 0) e) (getD a (3 * v + 2) 0) (getD a (3 * v + 1) 0))
+
+-- the answer is the tree's, and where it is a tree the array holds its rows
+pub record Found (n : ℕ) (t : List ℕ) (c : Checked) (a : List ℕ) : Type 0 where
+  pub says : checkSays c ≡ treeSaid n t
+  pub near : treeSaid n t ≡ gives tt → Near n t a
