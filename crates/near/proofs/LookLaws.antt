@@ -5,9 +5,10 @@ use mathlib.Core.List.{List, [], _∷_, _++_}
 use Prim.Native.Nat.{ℕ}
 use native.Mathlib.Omega.{arith}
 use Rattle.tree.specs.Tree.{nodes, fromZero, every}
-use Rattle.tree.specs.Refusals.{_else_, Said, gives, refuses, judged, countChecks, rowChecks, reachChecks, rowSaid, treeSaid}
+use Rattle.tree.specs.Refusals.{_else_, Said, gives, refuses, judged, countChecks, rowChecks, reachChecks, rowSaid, treeSaid, Accepted}
 use Rattle.tree.proofs.RefusalLaws.{judged-pass, judged-next, judged-fail, gives-pass, refuses-more}
 use Rattle.table.specs.Says.{checkSays}
+use Rattle.table.specs.Rowed.{Rowed}
 use Rattle.table.specs.declared.Checked.{Checked}
 use Rattle.near.specs.Near.{Near, Found}
 
@@ -36,3 +37,11 @@ module _ (n : ℕ) (t : List ℕ) where
 
   pub found-5 : (c : Checked) (a : List ℕ) → rowSaid n t ≡ gives tt → every (fromZero n t) (nodes n) ≡ false → checkSays c ≡ refuses 5 → Found n t c a
   found-5 c a h r s = let e = is-5 h r in record { says = s ∙ e; near = not-tree 5 a e }
+
+-- a tree's table has its rows
+pub accepted-rowed : (n : ℕ) (t : List ℕ) → Accepted n t → Rowed n t
+accepted-rowed n t a = record {
+  ordered = record { big = a .valid .big; few = a .few; len = a .valid .len; order = a .valid .order };
+  leaf = a .valid .leaf;
+  inner = a .valid .inner;
+}

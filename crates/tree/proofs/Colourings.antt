@@ -180,3 +180,12 @@ never-cross n t r r′ s s′ vt h h′ a b = go (either (eqb r r′))
       not (has s′ (lo t r)),
       empty-corner n t r r′ s s′ (valid-table n t vt) h h′ (eqb-false r r′ w) a b,
     )
+
+-- where row x is outside S′ and row x′ outside S, no node is in both
+pub disjoint : (n : ℕ) (t : List ℕ) (x x′ S S′ : ℕ) → Table n t → x < rows n → x′ < rows n → (x ≡ x′ → ⊥) → Parts n t x S → Parts n t x′ S′
+    → has S′ (lo t x) ≡ false → has S (lo t x′) ≡ false → (i : ℕ) → i < nodes n → has S i ≡ true → has S′ i ≡ false
+disjoint n t x x′ S S′ tab l l′ d a b o o′ i h p = go (either (has S′ i))
+  where
+    go : (has S′ i ≡ true) ⊎ (has S′ i ≡ false) → has S′ i ≡ false
+    go (inl q) = absurd (empty-corner n t x x′ S S′ tab l l′ d a b i h (p ∙ sym (ap not o′)) (q ∙ sym (ap not o)))
+    go (inr q) = q

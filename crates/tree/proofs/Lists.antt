@@ -306,6 +306,29 @@ lacks-none (x ∷ xs) ys h =
     rw (h x (or-left (eqb x x) (mem x xs) (eq-eqb x x refl)))
     (lacks-none xs ys (λ z p. h z (or-right (eqb z x) (mem z xs) p)))
 
+pub lacks-one : (x : ℕ) (xs ys : List ℕ) → Asc xs → mem x xs ≡ true → mem x ys ≡ false
+    → ((z : ℕ) → mem z xs ≡ true → (z ≡ x → ⊥) → mem z ys ≡ true) → lacks xs ys ≡ 1
+unfolding lacks mem
+lacks-one x [] ys asc h l k = absurd (false≢true h)
+lacks-one x (w ∷ xs) ys asc h l k = go (λ h′. lacks-one x xs ys (asc .1) h′ l (λ z p. k z (tail z p))) (either (eqb x w)) (or-cases (eqb x w) (mem x xs) h)
+  where
+    tail : (z : ℕ) → mem z xs ≡ true → (eqb z w || mem z xs) ≡ true
+    tail z p = or-right (eqb z w) (mem z xs) p
+
+    head : (eqb w w || mem w xs) ≡ true
+    head = or-left (eqb w w) (mem w xs) (eq-eqb w w refl)
+
+    go : (mem x xs ≡ true → lacks xs ys ≡ 1) → (eqb x w ≡ true) ⊎ (eqb x w ≡ false) → (eqb x w ≡ true) ⊎ (mem x xs ≡ true)
+        → pick (mem w ys) (lacks xs ys) (suc (lacks xs ys)) ≡ 1
+    go ih (inl e) m =
+        let out : mem w ys ≡ false = ap (λ (z : ℕ). mem z ys) (sym (eqb-true x w e)) ∙ l in
+        let none : lacks xs ys ≡ 0 = lacks-none xs ys (λ z p. k z (tail z p) (λ q. omega (arith, asc .0 z p, eqb-true x w e))) in
+        rw (out, none)
+    go ih (inr e) (inl m) = absurd (true≢false (sym m ∙ e))
+    go ih (inr e) (inr m) =
+        let inn : mem w ys ≡ true = k w head (λ q. eqb-false x w e (sym q)) in
+        rw inn (ih m)
+
 pub none-lacks : (xs ys : List ℕ) → lacks xs ys ≡ 0 → (z : ℕ) → mem z xs ≡ true → mem z ys ≡ true
 unfolding lacks mem
 none-lacks [] ys h z p = absurd (false≢true p)

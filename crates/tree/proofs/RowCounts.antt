@@ -236,3 +236,15 @@ pub count-less : (P Q : ℕ → Bool) (k i : ℕ) → ((r : ℕ) → r < k → P
 count-less P Q k i h l p q =
     let s : count P k ≤ count (but Q i) k = count-sub P (but Q i) k (λ r m x. and-both (Q r) (not (eqb r i)) (h r m x) (ap not (ne-eqb r i (λ d. true≢false (sym x ∙ ap P d ∙ p))))) in
     omega (arith, count-drop Q i k q l)
+
+-- the two others, from their list
+cons-head : (x y : ℕ) (xs ys : List ℕ) → x ∷ xs ≡ y ∷ ys → x ≡ y
+cons-head x y xs ys h = cc
+
+pub pair-of : (n : ℕ) (t : List ℕ) (a p f g : ℕ) → Valid n t → a < rows n → touches t a p ≡ true → n ≤ p → p < nodes n → others t a p (rows n) ≡ f ∷ g ∷ [] → Pair n t a p f g
+pair-of n t a p f g v ha ta ip lp list =
+    let w = pair n t a p v ha ta ip lp in
+    let q = sym list ∙ w .2 .list in
+    let ef : f ≡ w .0 = cons-head f (w .0) (g ∷ []) (w .1 ∷ []) q in
+    let eg : g ≡ w .1 = cc in
+    subst (λ (x : ℕ). Pair n t a p x g) (sym ef) (subst (λ (y : ℕ). Pair n t a p (w .0) y) (sym eg) (w .2))
