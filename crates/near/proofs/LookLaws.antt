@@ -5,11 +5,12 @@ use mathlib.Core.List.{List, [], _∷_, _++_}
 use Prim.Native.Nat.{ℕ}
 use native.Mathlib.Omega.{arith}
 use Rattle.tree.specs.Tree.{nodes, fromZero, every}
-use Rattle.tree.specs.Refusals.{_else_, Said, gives, refuses, judged, countChecks, rowChecks, reachChecks, rowSaid, treeSaid, Accepted}
-use Rattle.tree.proofs.RefusalLaws.{judged-pass, judged-next, judged-fail, gives-pass, refuses-more}
-use Rattle.table.specs.Says.{checkSays}
+use Rattle.tree.specs.Refusals.{_else_, Said, gives, refuses, judged, countChecks, rowChecks, reachChecks, treeChecks, rowSaid, treeSaid, Accepted}
+use Rattle.tree.proofs.RefusalLaws.{judged-pass, judged-next, judged-fail, gives-pass, refuses-more, pass-accepted}
+use Rattle.table.specs.Says.{numberOf, checkSays}
 use Rattle.table.specs.Rowed.{Rowed}
 use Rattle.table.specs.declared.Checked.{Checked}
+use Rattle.table.specs.declared.Refusal.{Refusal}
 use Rattle.near.specs.Near.{Near, Found}
 
 module _ (n : ℕ) (t : List ℕ) where
@@ -45,3 +46,12 @@ accepted-rowed n t a = record {
   leaf = a .valid .leaf;
   inner = a .valid .inner;
 }
+
+-- what an answer of the check tells
+pub found-tree-is : (n : ℕ) (t : List ℕ) (c : Checked) (a : List ℕ) → Found n t c a → c ≡ Checked.Tree → (Accepted n t) × (Near n t a)
+found-tree-is n t c a f e =
+    let g : treeSaid n t ≡ gives tt = sym (f .says) ∙ ap checkSays e in
+    (pass-accepted n t (gives-pass (treeChecks n t) tt tt g), f .near g)
+
+pub found-refused : (n : ℕ) (t : List ℕ) (c : Checked) (a : List ℕ) (r : Refusal) → Found n t c a → c ≡ Checked.Refused r → treeSaid n t ≡ refuses (numberOf r)
+found-refused n t c a r f e = sym (f .says) ∙ ap checkSays e

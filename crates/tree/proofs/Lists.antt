@@ -372,3 +372,12 @@ first-lack (x ∷ xs) ys a = go (first-lack xs ys (a .1)) (mem x ys) refl
         at : (z : ℕ) → (eqb z x ≡ true) ⊎ (mem z xs ≡ true) → x ≤ z
         at z (inl w) = omega (arith, eqb-true z x w)
         at z (inr w) = omega (arith, a .0 z w)
+
+pub lacks-most : (xs ys : List ℕ) → lacks xs ys ≤ length xs
+unfolding lacks
+lacks-most [] ys = le-refl 0
+lacks-most (x ∷ xs) ys = go (lacks-most xs ys) (mem x ys)
+  where
+    go : lacks xs ys ≤ length xs → (b : Bool) → pick b (lacks xs ys) (suc (lacks xs ys)) ≤ suc (length xs)
+    go ih true = omega arith
+    go ih false = omega arith

@@ -1,0 +1,41 @@
+use Rattle.tree.specs.Refusals.{Said}
+use mathlib.Core.Path.{ap, ap₂}
+use Prim.Native.Nat.{ℕ, _+_}
+use native.Mathlib.Omega.{arith}
+use Rattle.tree.specs.Refusals.{gives}
+use Rattle.tree.proofs.Lists.{lacks-most}
+use borrow.Author.Needs.{needs}
+use Rattle.splits.proofs.compare_lists.Statement.{statement}
+use Rattle.splits.proofs.compare_lists.Tie as tie
+use Rattle.splits.proofs.compare_lists.Reads as reads
+use Rattle.splits.proofs.compare_lists.Lts as lts
+use Rattle.lists.proofs.count_lacking.Reads as count-lacking-reads
+use Rattle.lists.proofs.first_lacking.Reads as first-lacking-reads
+
+count-lacking-requires : tie.Need-count-lacking-requires
+count-lacking-requires c κs = search needs
+
+count-lacking-requires-2 : tie.Need-count-lacking-requires-2
+count-lacking-requires-2 c κs = search needs
+
+first-lacking-requires : tie.Need-first-lacking-requires
+first-lacking-requires c κs = search needs
+
+add-t6 : tie.Need-add-t6
+add-t6 c =
+    record { fits = omega (arith, c .before .before .count-lacking .ensures, c .before .count-lacking2 .ensures, lacks-most (c .before .before .before .before .before .args .a .now) (c .before .before .before .before .before .args .b .now), lacks-most (c .before .before .before .before .before .args .b .now) (c .before .before .before .before .before .args .a .now), c .before .before .before .before .before .pre .2, c .before .before .before .before .before .pre .3) }
+
+returns : tie.Need-returns
+returns c =
+    let pair : ℕ → ℕ → Said (ℕ × ℕ) = λ d x. gives (d, x) in
+    ap₂ pair (ap₂ _+_ (c .before .before .count-lacking .ensures) (c .before .count-lacking2 .ensures)) (c .first-lacking .ensures)
+
+pub compare-lists-spec : {M : Type 1} → statement M
+compare-lists-spec =
+    tie.close
+    (tie.spec
+    count-lacking-requires
+    count-lacking-requires-2
+    first-lacking-requires
+    add-t6
+    returns)

@@ -1,0 +1,87 @@
+use lib.ListN.{take}
+use Rattle.splits.proofs.ListLaws.{compared-lists}
+use mathlib.Core.Path.{_≡_, sym, ap, ap₂, _∙_, subst}
+use mathlib.Core.List.{List}
+use Prim.Native.Nat.{ℕ, _+_, _≤_}
+use native.Mathlib.Omega.{arith}
+use lib.ListN.{length, length-replicate}
+use Rattle.taxa.specs.Most.{most}
+use Rattle.tree.specs.Tree.{rows}
+use Rattle.tree.specs.Lists.{lacks, firstLack}
+use Rattle.tree.specs.Splits.{splits, dist, missing}
+use Rattle.tree.specs.Refusals.{Said, gives}
+use Rattle.tree.proofs.Lists.{Asc}
+use Rattle.tree.proofs.SplitLaws.{splits-asc}
+use Rattle.splits.proofs.ListLaws.{listed-prefix, splits-few}
+use borrow.Author.Needs.{needs}
+use Rattle.splits.proofs.compare_trees.Statement.{statement}
+use Rattle.splits.proofs.compare_trees.Tie as tie
+use Rattle.splits.proofs.compare_trees.Reads as reads
+use Rattle.splits.proofs.compare_trees.Lts as lts
+use Rattle.splits.proofs.compare_lists.Reads as compare-lists-reads
+use Rattle.splits.proofs.tree_splits.Reads as tree-splits-reads
+
+slice-aggregate-tree-splits : tie.Need-slice-aggregate-tree-splits
+slice-aggregate-tree-splits c = search needs
+
+tree-splits-requires : tie.Need-tree-splits-requires
+tree-splits-requires c κs =
+    let s = c .before .before .before .before .before in
+    (s .pre .0, s .pre .1, s .pre .4, omega (arith, splits-few (s .args .n) (s .args .t .now) (s .args .y), s .pre .0 .few, length-replicate {A = ℕ} (rows most) 0))
+
+slice-aggregate-tree-splits-2 : tie.Need-slice-aggregate-tree-splits-2
+slice-aggregate-tree-splits-2 c = search needs
+
+tree-splits-requires-2 : tie.Need-tree-splits-requires-2
+tree-splits-requires-2 c κs =
+    let s = c .before .before .before .before .before .before .before .before in
+    (s .pre .2, s .pre .3, s .pre .4, omega (arith, splits-few (s .args .n) (s .args .u .now) (s .args .y), s .pre .0 .few, length-replicate {A = ℕ} (rows most) 0))
+
+array-share-prefix-first : tie.Need-array-share-prefix-first
+array-share-prefix-first c =
+    let s = c .before .before .before .before .before .before .before .before .before .before in
+    omega (arith, c .before .before .before .before .tree-splits .ensures .count, splits-few (s .args .n) (s .args .t .now) (s .args .y), s .pre .0 .few)
+
+slice-aggregate-compare-lists : tie.Need-slice-aggregate-compare-lists
+slice-aggregate-compare-lists c =
+    sym (ap length (listed-prefix _ _ _ _ (c .before .before .before .before .before .tree-splits .ensures)) ∙ sym (c .before .before .before .before .before .tree-splits .ensures .count))
+
+array-share-prefix-second : tie.Need-array-share-prefix-second
+array-share-prefix-second c =
+    let s = c .before .before .before .before .before .before .before .before .before .before .before in
+    omega (arith, c .before .before .tree-splits2 .ensures .count, splits-few (s .args .n) (s .args .u .now) (s .args .y), s .pre .0 .few)
+
+slice-aggregate-compare-lists-2 : tie.Need-slice-aggregate-compare-lists-2
+slice-aggregate-compare-lists-2 c =
+    sym (ap length (listed-prefix _ _ _ _ (c .before .before .before .tree-splits2 .ensures)) ∙ sym (c .before .before .before .tree-splits2 .ensures .count))
+
+compare-lists-requires : tie.Need-compare-lists-requires
+compare-lists-requires c κs =
+    let s = c .before .before .before .before .before .before .before .before .before .before .before .before in
+    let p = listed-prefix _ _ _ _ (c .before .before .before .before .before .before .tree-splits .ensures) in
+    let q = listed-prefix _ _ _ _ (c .before .before .before .tree-splits2 .ensures) in
+    (subst Asc (sym p) (splits-asc (s .args .n) (s .args .t .now) (s .args .y)),
+    subst Asc (sym q) (splits-asc (s .args .n) (s .args .u .now) (s .args .y)),
+    omega (arith, ap length p, splits-few (s .args .n) (s .args .t .now) (s .args .y), s .pre .0 .few),
+    omega (arith, ap length q, splits-few (s .args .n) (s .args .u .now) (s .args .y), s .pre .0 .few))
+
+returns : tie.Need-returns
+returns c =
+    let s = c .before .before .before .before .before .before .before .before .before .before .before .before .before in
+    let pair : ℕ × ℕ → Said (ℕ × ℕ) = λ v. gives v in
+    c .compare-lists .ensures ∙ ap pair (compared-lists (s .args .n) (s .args .t .now) (s .args .u .now) (s .args .y) _ _ (listed-prefix _ _ _ _ (c .before .before .before .before .before .before .before .tree-splits .ensures)) (listed-prefix _ _ _ _ (c .before .before .before .before .tree-splits2 .ensures)))
+
+pub compare-trees-spec : {M : Type 1} → statement M
+compare-trees-spec =
+    tie.close
+    (tie.spec
+    slice-aggregate-tree-splits
+    tree-splits-requires
+    slice-aggregate-tree-splits-2
+    tree-splits-requires-2
+    array-share-prefix-first
+    slice-aggregate-compare-lists
+    array-share-prefix-second
+    slice-aggregate-compare-lists-2
+    compare-lists-requires
+    returns)

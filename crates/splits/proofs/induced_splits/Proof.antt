@@ -1,0 +1,51 @@
+use Rattle.near.proofs.LookLaws.{found-tree-is, found-refused}
+use Rattle.splits.proofs.SaidLaws.{induces-tree}
+use borrow.Author.Needs.{needs}
+use Rattle.splits.proofs.induced_splits.Statement.{statement}
+use Rattle.splits.proofs.induced_splits.Tie as tie
+use Rattle.splits.proofs.induced_splits.Reads as reads
+use Rattle.splits.proofs.induced_splits.Lts as lts
+use Rattle.near.proofs.look.Reads as look-reads
+use Rattle.splits.proofs.induced_tree.Reads as induced-tree-reads
+
+look-requires : tie.Need-look-requires
+look-requires c κs = search needs
+
+enum-known-answer : tie.Need-enum-known-answer
+enum-known-answer c = search needs
+
+enum-told : tie.Need-enum-told
+enum-told c = search needs
+
+slice-aggregate-induced-tree : tie.Need-slice-aggregate-induced-tree
+slice-aggregate-induced-tree c = search needs
+
+induced-tree-requires : tie.Need-induced-tree-requires
+induced-tree-requires c κs =
+    let s = c .before .before .before .before .before .before .before .before in
+    found-tree-is (s .args .n) (s .args .t .now) _ _ (c .before .before .before .before .before .look .ensures) (c .before .before .enum-told .given .1)
+
+returns : tie.Need-returns
+returns c =
+    let s = c .before .before .before .before .before .before .before in
+    induces-tree (s .args .n) (s .args .t .now) (s .args .y) (s .args .out .now) _ (found-refused (s .args .n) (s .args .t .now) _ _ _ (c .before .before .before .before .look .ensures) (c .before .answer .given .1))
+
+same-length : tie.Need-same-length
+same-length c = search needs
+
+returns-2 : tie.Need-returns-2
+returns-2 c =
+    c .before .before .induced-tree .ensures
+
+pub induced-splits-spec : {M : Type 1} → statement M
+induced-splits-spec =
+    tie.close
+    (tie.spec
+    look-requires
+    enum-known-answer
+    enum-told
+    slice-aggregate-induced-tree
+    induced-tree-requires
+    returns
+    same-length
+    returns-2)

@@ -1,0 +1,107 @@
+use mathlib.Core.Path.{_≡_, refl, sym, ap, _∙_, subst}
+use mathlib.Core.List.{List, []}
+use Prim.Native.Nat.{ℕ, _≤_, _-_}
+use native.Mathlib.Omega.{arith}
+use lib.ListN.{length}
+use Rattle.tree.specs.Tree.{rows}
+use Rattle.splits.specs.Listed.{splitsOf, Listed}
+use Rattle.splits.proofs.ListLaws.{splits-none, without-split, low-lt, listed-none, listed-length, listed-fits, listed-room, listed-more}
+use borrow.Author.Needs.{needs}
+use Rattle.splits.proofs.list.Statement.{statement}
+use Rattle.splits.proofs.list.Tie as tie
+use Rattle.splits.proofs.list.Reads as reads
+use Rattle.splits.proofs.list.Lts as lts
+use Rattle.splits.proofs.add.Reads as add-reads
+use Rattle.splits.proofs.without.Reads as without-reads
+use Rattle.taxa.proofs.lowest.Reads as lowest-reads
+
+abbrev Inv-loop : tie.InvT-loop
+Inv-loop n sides y out₀ low m len₀ i₀ out len i =
+    (i ≤ rows n) × Listed (splitsOf n y sides i) out₀ len out
+
+abbrev μ-loop : tie.MeasureT-loop
+μ-loop n sides y out₀ low m len₀ i₀ out len i =
+    rows n - i
+
+returns : tie.Need-returns Inv-loop μ-loop
+returns c =
+    let s = c .before .before in
+    let e : splitsOf (s .args .n) (s .args .y) (s .args .sides .now) (rows (s .args .n)) ≡ [] = ap (λ (z : ℕ). splitsOf (s .args .n) z (s .args .sides .now) (rows (s .args .n))) (c .if1 .taken) ∙ splits-none (s .args .n) (s .args .sides .now) (rows (s .args .n)) in
+    subst (λ (l : List ℕ). Listed l (s .args .out .now) 0 (s .args .out .now)) (sym e) (record { count = refl; memory = refl })
+
+lowest-requires : tie.Need-lowest-requires Inv-loop μ-loop
+lowest-requires c κs = search needs
+
+mul-m : tie.Need-mul-m Inv-loop μ-loop
+mul-m c =
+    omega (arith, c .before .before .before .pre .1)
+
+sub-m : tie.Need-sub-m Inv-loop μ-loop
+sub-m c =
+    omega (arith, c .before .before .before .pre .0)
+
+loop-holds : tie.Need-loop-holds Inv-loop μ-loop
+loop-holds c =
+    (search needs, listed-none (c .before .before .before .args .n) (c .before .before .before .args .y) (c .before .before .before .args .sides .now) (c .before .before .before .args .out .now) (c .before .before .before .pre .3))
+
+mul-without : tie.Need-mul-without Inv-loop μ-loop
+mul-without c = search needs
+
+element-copy-out-without : tie.Need-element-copy-out-without Inv-loop μ-loop
+element-copy-out-without c =
+    omega (arith, c .before .before .before .before .before .pre .1)
+
+without-requires : tie.Need-without-requires Inv-loop μ-loop
+without-requires c κs =
+    low-lt (c .before .before .before .before .before .before .args .n) (c .before .before .before .before .before .before .args .y) (c .before .before .before .lowest .result) (c .before .before .before .before .before .before .pre .1) (c .before .before .before .before .before .before .pre .2) (c .before .before .before .before .if1 .left) (c .before .before .before .lowest .ensures)
+
+add-requires : tie.Need-add-requires Inv-loop μ-loop
+add-requires c κs =
+    let s = c .before .before .before .before .before .before .before .before in
+    let ex = c .before .without .ensures ∙ without-split (s .args .n) (s .args .y) _ (c .before .before .before .before .before .lowest .result) (s .pre .1) (s .pre .2) (c .before .before .before .before .before .before .if1 .left) (c .before .before .before .before .before .lowest .ensures) in
+    (listed-fits (s .args .n) (s .args .y) (s .args .sides .now) (s .args .out .now) (s .pre .3) (c .before .before .before .before .loop .out) (c .before .before .before .before .loop .len) (c .before .before .before .before .loop .i) (c .before .before .before .before .loop .inv .0) (c .before .before .before .before .loop .inv .1),
+    listed-room (s .args .n) (s .args .y) (s .args .sides .now) (s .args .out .now) (s .pre .3) (c .before .before .before .before .loop .out) (c .before .before .before .before .loop .len) (c .before .before .before .before .loop .i) (c .before .before .before .before .loop .inv .0) (c .before .before .before .before .loop .inv .1) (c .before .without .result) (c .before .before .before .loop-test .taken) ex)
+
+add-i : tie.Need-add-i Inv-loop μ-loop
+add-i c = search needs
+
+loop-less : tie.Need-loop-less Inv-loop μ-loop
+loop-less c = search needs
+
+loop-again : tie.Need-loop-again Inv-loop μ-loop
+loop-again c =
+    let s = c .before .before .before .before .before .before .before .before .before .before .before in
+    let ex = c .before .before .before .before .without .ensures ∙ without-split (s .args .n) (s .args .y) _ (c .before .before .before .before .before .before .before .before .lowest .result) (s .pre .1) (s .pre .2) (c .before .before .before .before .before .before .before .before .before .if1 .left) (c .before .before .before .before .before .before .before .before .lowest .ensures) in
+    (omega arith, listed-more (s .args .n) (s .args .y) (s .args .sides .now) (s .args .out .now) (s .pre .3) (c .before .before .before .before .before .before .before .loop .out) (c .before .before .before .before .before .before .before .loop .len) (c .before .before .before .before .before .before .before .loop .i) (c .before .before .before .before .before .before .before .loop .inv .0) (c .before .before .before .before .before .before .before .loop .inv .1) (c .before .before .before .before .without .result) (c .before .before .before .before .before .before .loop-test .taken) ex _ _ (c .before .before .add .ensures))
+
+same-length : tie.Need-same-length Inv-loop μ-loop
+same-length c =
+    let s = c .before .before .before .before .before in
+    listed-length (s .args .n) (s .args .y) (s .args .sides .now) (s .args .out .now) (s .pre .3) (c .before .loop .out) (c .before .loop .len) (c .before .loop .i) (c .before .loop .inv .0) (c .before .loop .inv .1)
+
+returns-2 : tie.Need-returns-2 Inv-loop μ-loop
+returns-2 c =
+    let s = c .before .before .before .before .before in
+    let done : c .before .loop .i ≡ rows (s .args .n) = omega arith in
+    subst (λ (k : ℕ). Listed (splitsOf (s .args .n) (s .args .y) (s .args .sides .now) k) (s .args .out .now) (c .before .loop .len) (c .before .loop .out)) done (c .before .loop .inv .1)
+
+pub list-spec : {M : Type 1} → statement M
+list-spec =
+    tie.close
+    (tie.spec
+    Inv-loop
+    μ-loop
+    returns
+    lowest-requires
+    mul-m
+    sub-m
+    loop-holds
+    mul-without
+    element-copy-out-without
+    without-requires
+    add-requires
+    add-i
+    loop-less
+    loop-again
+    same-length
+    returns-2)

@@ -1,0 +1,25 @@
+use mathlib.Core.Path.{sym, _∙_}
+use native.Mathlib.Omega.{arith}
+use Rattle.tree.proofs.Members.{members-is}
+use borrow.Author.Needs.{needs}
+use Rattle.splits.proofs.members.Statement.{statement}
+use Rattle.splits.proofs.members.Tie as tie
+use Rattle.splits.proofs.members.Reads as reads
+use Rattle.splits.proofs.members.Lts as lts
+
+returns : tie.Need-returns
+returns c =
+    omega (arith, members-is (c .before .args .m))
+
+mul-result : tie.Need-mul-result
+mul-result c = search needs
+
+sub-result : tie.Need-sub-result
+sub-result c = search needs
+
+returns-2 : tie.Need-returns-2
+returns-2 c =
+    omega (arith, members-is (c .before .args .m))
+
+pub members-spec : {M : Type 1} → statement M
+members-spec = tie.close (tie.spec returns mul-result sub-result returns-2)

@@ -1,0 +1,176 @@
+// The induced splits of a tree over a partition, and the comparison of two trees.
+ghost use Prim.Native.Nat.{ℕ, _+_, _*_, _-_, _^_, _<_, _≤_};
+ghost use mathlib.Core.Path.{_≡_};
+ghost use mathlib.Core.List.{_++_};
+ghost use lib.Bits.{bitAnd};
+ghost use lib.ListN.{length, getD, take, drop};
+ghost use Rattle.taxa.specs.Most.{most};
+ghost use Rattle.taxa.specs.Sets.{pick, has, less};
+ghost use Rattle.tree.specs.Tree.{rows};
+ghost use Rattle.tree.specs.Splits as splits_spec;
+ghost use Rattle.tree.specs.Lists.{lacks, firstLack};
+ghost use Rattle.tree.specs.Refusals.{Accepted, gives};
+ghost use Rattle.tree.proofs.Lists.{Asc};
+ghost use Rattle.near.specs.Near.{Near};
+ghost use Rattle.splits.specs.Listed.{added, splitsOf, Listed};
+ghost use Rattle.splits.specs.Promises.{Induces, compareSays, comparedSaid};
+
+use table::Checked;
+use table::Refusal;
+
+// The answer of a call for induced splits: how many numbers were written.
+pub enum Induced {
+    Count(usize),
+    Refused(Refusal),
+}
+
+// The answer of a comparison: the distance, and the smallest number that the second tree lacks, or 0.
+pub enum Compared {
+    Apart(usize, u64),
+    Refused(Refusal),
+}
+
+// Of the two sides of y that s makes, the one without the taxon low.
+fn without(low: usize, y: u64, s: u64) -> u64
+    requires { ⌜ low < most ⌝ }
+    ensures { λ x. ⌜ x ≡ pick (has s low) (less y s) (bitAnd s y) ⌝ }
+{
+    if taxa::has(s, low) {
+        return taxa::less(y, s);
+    }
+    s & y
+}
+
+// Puts the number x into the first len of out, unless it is 0; the new count.
+fn add(out: &mut [u64], len: usize, x: u64) -> usize
+    requires { ⌜ (len ≤ length (now out)) × (length (added x (take len (now out))) ≤ length (now out)) ⌝ }
+    ensures { λ r. ⌜ Listed (added x (take len (now (out .entry)))) (now (out .entry)) r (now (out .exit)) ⌝ }
+{
+    if x == 0 {
+        return len;
+    }
+    lists::insert(out, len, x)
+}
+
+// Lists the splits over y of the rows whose sides are given; how many there are.
+fn list(n: usize, sides: &[u64; sides::ROWS], y: u64, out: &mut [u64]) -> usize
+    requires { ⌜ (4 ≤ n) × (n ≤ most) × (y < 2 ^ n) × (length (splitsOf n y (now sides) (rows n)) ≤ length (now out)) ⌝ }
+    ensures { λ r. ⌜ Listed (splitsOf n y (now (sides .entry)) (rows n)) (now (out .entry)) r (now (out .exit)) ⌝ }
+{
+    if y == 0 {
+        return 0;
+    }
+    let low = taxa::lowest(y);
+    let m = 2 * n - 3;
+    let mut len: usize = 0;
+    let mut i: usize = 0;
+    while i < m {
+        let x = without(low, y, sides[i]);
+        len = add(out, len, x);
+        i += 1;
+    }
+    len
+}
+
+// How many induced splits a tree has over a partition of m taxa.
+fn members(m: usize) -> usize
+    requires { ⌜ m ≤ most ⌝ }
+    ensures { λ k. ⌜ k ≡ splits_spec.members m ⌝ }
+{
+    if m < 2 {
+        return 0;
+    }
+    2 * m - 3
+}
+
+// Lists the induced splits of a tree over y; how many there are.
+fn tree_splits(n: usize, t: &[u8], near: &[u8], y: u64, out: &mut [u64]) -> usize
+    requires { ⌜ (Accepted n (now t)) × (Near n (now t) (now near)) × (y < 2 ^ n) × (length (splits_spec.splits n (now t) y) ≤ length (now out)) ⌝ }
+    ensures { λ r. ⌜ Listed (splits_spec.splits n (now (t .entry)) y) (now (out .entry)) r (now (out .exit)) ⌝ }
+{
+    let s = sides::sides(n, t, near);
+    list(n, &s, y, out)
+}
+
+// The same where the partition names none but the n taxa and the room suffices: refusals 6 and 11.
+fn induced_tree(n: usize, t: &[u8], near: &[u8], y: u64, out: &mut [u64]) -> Induced
+    requires { ⌜ (Accepted n (now t)) × (Near n (now t) (now near)) ⌝ }
+    ensures { λ r. ⌜ Induces n (now (t .entry)) y (now (out .entry)) r (now (out .exit)) ⌝ }
+{
+    if !taxa::within(y, n) {
+        return Induced::Refused(Refusal::Partition);
+    }
+    let m = taxa::size(y);
+    if out.len() < members(m) {
+        return Induced::Refused(Refusal::Room);
+    }
+    Induced::Count(tree_splits(n, t, near, y, out))
+}
+
+// The induced splits of a tree over y, ascending, each once, written into out: refusals 1 to 6 and 11.
+pub fn induced_splits(n: usize, t: &[u8], y: u64, out: &mut [u64]) -> Induced
+    ensures { λ r. ⌜ Induces n (now (t .entry)) y (now (out .entry)) r (now (out .exit)) ⌝ }
+{
+    let l = near::look(n, t);
+    let near = l.near;
+    let answer = l.answer;
+    match answer {
+        Checked::Refused(r) => Induced::Refused(r),
+        Checked::Tree => induced_tree(n, t, &near, y, out),
+    }
+}
+
+// The comparison of two lists of splits.
+fn compare_lists(a: &[u64], b: &[u64]) -> Compared
+    requires { ⌜ (Asc (now a)) × (Asc (now b)) × (length (now a) ≤ rows most) × (length (now b) ≤ rows most) ⌝ }
+    ensures { λ r. ⌜ compareSays r ≡ gives (lacks (now (a .entry)) (now (b .entry)) + lacks (now (b .entry)) (now (a .entry)), firstLack (now (a .entry)) (now (b .entry))) ⌝ }
+{
+    let lost = lists::count_lacking(a, b);
+    let gained = lists::count_lacking(b, a);
+    let first = lists::first_lacking(a, b);
+    Compared::Apart(lost + gained, first)
+}
+
+// The comparison over y of the tree t, whose rows at each node are a, and the tree u, whose are b.
+fn compare_trees(n: usize, t: &[u8], a: &[u8], u: &[u8], b: &[u8], y: u64) -> Compared
+    requires { ⌜ (Accepted n (now t)) × (Near n (now t) (now a)) × (Accepted n (now u)) × (Near n (now u) (now b)) × (y < 2 ^ n) ⌝ }
+    ensures { λ r. ⌜ compareSays r ≡ gives (splits_spec.dist n (now (t .entry)) (now (u .entry)) y, splits_spec.missing n (now (t .entry)) (now (u .entry)) y) ⌝ }
+{
+    let mut first = [0u64; sides::ROWS];
+    let mut second = [0u64; sides::ROWS];
+    let i = tree_splits(n, t, a, y, &mut first);
+    let j = tree_splits(n, u, b, y, &mut second);
+    compare_lists(&first[..i], &second[..j])
+}
+
+// The same where the first tree is one: refusals 2 to 5 of the second, and 6.
+fn compare_second(n: usize, t: &[u8], a: &[u8], u: &[u8], y: u64) -> Compared
+    requires { ⌜ (Accepted n (now t)) × (Near n (now t) (now a)) ⌝ }
+    ensures { λ r. ⌜ compareSays r ≡ comparedSaid n (now (t .entry)) (now (u .entry)) y ⌝ }
+{
+    let l = near::look(n, u);
+    let b = l.near;
+    let answer = l.answer;
+    match answer {
+        Checked::Refused(r) => Compared::Refused(r),
+        Checked::Tree => {
+            if taxa::within(y, n) {
+                return compare_trees(n, t, a, u, &b, y);
+            }
+            Compared::Refused(Refusal::Partition)
+        }
+    }
+}
+
+// The comparison of two trees over y: refusals 1, 2 to 5 of the first, 2 to 5 of the second, and 6.
+pub fn compare(n: usize, t: &[u8], u: &[u8], y: u64) -> Compared
+    ensures { λ r. ⌜ compareSays r ≡ comparedSaid n (now (t .entry)) (now (u .entry)) y ⌝ }
+{
+    let l = near::look(n, t);
+    let near = l.near;
+    let answer = l.answer;
+    match answer {
+        Checked::Refused(r) => Compared::Refused(r),
+        Checked::Tree => compare_second(n, t, &near, u, y),
+    }
+}
