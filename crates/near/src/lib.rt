@@ -11,12 +11,12 @@ ghost use Rattle.table.specs.Says.{checkSays};
 ghost use Rattle.table.specs.Rowed.{Rowed};
 ghost use Rattle.near.specs.Near.{hooked, Near, otherFirst, otherSecond, Found};
 ghost use Rattle.near.specs.Marks.{mark, Visited};
-
 use table::Checked;
 use table::Refusal;
 
 // The most nodes that a tree has, and three places for each.
 const NODES: usize = 126;
+
 const PLACES: usize = 378;
 
 // A place that holds no row.

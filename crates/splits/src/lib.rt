@@ -14,7 +14,6 @@ ghost use Rattle.tree.proofs.Lists.{Asc};
 ghost use Rattle.near.specs.Near.{Near};
 ghost use Rattle.splits.specs.Listed.{added, splitsOf, Listed};
 ghost use Rattle.splits.specs.Promises.{Induces, compareSays, comparedSaid};
-
 use table::Checked;
 use table::Refusal;
 

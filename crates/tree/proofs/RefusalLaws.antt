@@ -86,7 +86,7 @@ accepted-pass n t a =
         eq-eqb (length t) (2 * rows n) (vt .len),
         (
           all-every (inOrder n t) (rows n) (λ r l.
-          and-both (ltb (lo t r) (hi t r)) (leb (hi t r) (2 * n - 3)) (lt-ltb (lo t r) (hi t r) (vt .order r l .0)) (le-leb (hi t r) (2 * n - 3) (omega (arith, vt .order r l .1)))),
+              and-both (ltb (lo t r) (hi t r)) (leb (hi t r) (2 * n - 3)) (lt-ltb (lo t r) (hi t r) (vt .order r l .0)) (le-leb (hi t r) (2 * n - 3) (omega (arith, vt .order r l .1)))),
           (all-every (rightDegree n t) (nodes n) (λ v l. right v l (either (ltb v n))), (all-every (fromZero n t) (nodes n) (λ v l. vt .connected .reached v l), tt)),
         ),
       ),

@@ -96,10 +96,16 @@ visit-visit-requires : (t : ℕ) → visit-lts.Need-visit-requires (
 visit-visit-requires t c κs =
     let s = c .before .before .before .before .before .before .before in
     let A = place-0 (s .args .n) (s .args .t .now) (s .args .near .now) (s .args .v) (s .pre .1 .0) (s .pre .1 .1) (s .pre .1 .2) (c .before .before .row-at .result) (c .before .before .row-at .ensures) in
-    let fall = left-set (s .args .marks .now) (s .args .v) (s .pre .1 .4) (omega (arith, s .pre .1 .0 .ordered .few, s .pre .1 .2)) (mark-not (s .args .marks .now) (s .args .v) (c .before .before .before .before .if1 .left)) in
-    (omega (arith, fall, s .pre .0), (s .pre .1 .0, s .pre .1 .1,
-    omega (arith, c .before .far .ensures, across-node (s .args .n) (s .args .t .now) (s .pre .1 .0) (s .args .v) (c .before .before .row-at .result) A),
-    rw (c .before .far .ensures) (across-zero (s .args .n) (s .args .t .now) (s .pre .1 .0) (s .args .v) (c .before .before .row-at .result) A (s .pre .1 .3)), length-set (s .args .marks .now) (s .args .v) 1 ∙ s .pre .1 .4))
+    let fall = left-set (s .args .marks .now) (s .args .v) (s .pre .1 .4) (omega (arith, s .pre .1 .0 .ordered .few, s .pre .1 .2)) (mark-not (s .args .marks .now) (s .args .v) (c .before .before .before .before .if1 .left)) in (
+      omega (arith, fall, s .pre .0),
+      (
+        s .pre .1 .0,
+        s .pre .1 .1,
+        omega (arith, c .before .far .ensures, across-node (s .args .n) (s .args .t .now) (s .pre .1 .0) (s .args .v) (c .before .before .row-at .result) A),
+        rw (c .before .far .ensures) (across-zero (s .args .n) (s .args .t .now) (s .pre .1 .0) (s .args .v) (c .before .before .row-at .result) A (s .pre .1 .3)),
+        length-set (s .args .marks .now) (s .args .v) 1 ∙ s .pre .1 .4,
+      ),
+    )
 
 visit-returns-2 : (t : ℕ) → visit-lts.Need-returns-2 (
   row-at-reads.Asked,
@@ -149,10 +155,16 @@ visit-visit-requires-2 t c κs =
     let s = c .before .before .before .before .before .before .before .before .before .before .before .before .before in
     let A = place-1 (s .args .n) (s .args .t .now) (s .args .near .now) (s .args .v) (s .pre .1 .0) (s .pre .1 .1) (c .before .before .before .before .if2 .left) (s .pre .1 .2) (c .before .before .row-at2 .result) (c .before .before .row-at2 .ensures) in
     let fall = left-set (s .args .marks .now) (s .args .v) (s .pre .1 .4) (omega (arith, s .pre .1 .0 .ordered .few, s .pre .1 .2)) (mark-not (s .args .marks .now) (s .args .v) (c .before .before .before .before .before .before .before .before .before .before .if1 .left)) in
-    let less = left-spread _ _ _ _ (c .before .before .before .before .before .visit .ensures .spread) in
-    (omega (arith, fall, less, s .pre .0), (s .pre .1 .0, s .pre .1 .1,
-    omega (arith, c .before .far2 .ensures, across-node (s .args .n) (s .args .t .now) (s .pre .1 .0) (s .args .v) (c .before .before .row-at2 .result) A),
-    rw (c .before .far2 .ensures) (across-zero (s .args .n) (s .args .t .now) (s .pre .1 .0) (s .args .v) (c .before .before .row-at2 .result) A (s .pre .1 .3)), c .before .before .before .before .before .visit .ensures .spread .len ∙ length-set (s .args .marks .now) (s .args .v) 1 ∙ s .pre .1 .4))
+    let less = left-spread _ _ _ _ (c .before .before .before .before .before .visit .ensures .spread) in (
+      omega (arith, fall, less, s .pre .0),
+      (
+        s .pre .1 .0,
+        s .pre .1 .1,
+        omega (arith, c .before .far2 .ensures, across-node (s .args .n) (s .args .t .now) (s .pre .1 .0) (s .args .v) (c .before .before .row-at2 .result) A),
+        rw (c .before .far2 .ensures) (across-zero (s .args .n) (s .args .t .now) (s .pre .1 .0) (s .args .v) (c .before .before .row-at2 .result) A (s .pre .1 .3)),
+        c .before .before .before .before .before .visit .ensures .spread .len ∙ length-set (s .args .marks .now) (s .args .v) 1 ∙ s .pre .1 .4,
+      ),
+    )
 
 visit-row-at-requires-3 : (t : ℕ) → visit-lts.Need-row-at-requires-3 (
   row-at-reads.Asked,
@@ -190,10 +202,16 @@ visit-visit-requires-3 t c κs =
     let A = place-2 (s .args .n) (s .args .t .now) (s .args .near .now) (s .args .v) (s .pre .1 .0) (s .pre .1 .1) (c .before .before .before .before .before .before .before .before .before .if2 .left) (s .pre .1 .2) (c .before .before .row-at3 .result) (c .before .before .row-at3 .ensures) in
     let fall = left-set (s .args .marks .now) (s .args .v) (s .pre .1 .4) (omega (arith, s .pre .1 .0 .ordered .few, s .pre .1 .2)) (mark-not (s .args .marks .now) (s .args .v) (c .before .before .before .before .before .before .before .before .before .before .before .before .before .before .before .if1 .left)) in
     let less = left-spread _ _ _ _ (c .before .before .before .before .before .before .before .before .before .before .visit .ensures .spread) in
-    let less2 = left-spread _ _ _ _ (c .before .before .before .before .visit2 .ensures .spread) in
-    (omega (arith, fall, less, less2, s .pre .0), (s .pre .1 .0, s .pre .1 .1,
-    omega (arith, c .before .far3 .ensures, across-node (s .args .n) (s .args .t .now) (s .pre .1 .0) (s .args .v) (c .before .before .row-at3 .result) A),
-    rw (c .before .far3 .ensures) (across-zero (s .args .n) (s .args .t .now) (s .pre .1 .0) (s .args .v) (c .before .before .row-at3 .result) A (s .pre .1 .3)), c .before .before .before .before .visit2 .ensures .spread .len ∙ c .before .before .before .before .before .before .before .before .before .before .visit .ensures .spread .len ∙ length-set (s .args .marks .now) (s .args .v) 1 ∙ s .pre .1 .4))
+    let less2 = left-spread _ _ _ _ (c .before .before .before .before .visit2 .ensures .spread) in (
+      omega (arith, fall, less, less2, s .pre .0),
+      (
+        s .pre .1 .0,
+        s .pre .1 .1,
+        omega (arith, c .before .far3 .ensures, across-node (s .args .n) (s .args .t .now) (s .pre .1 .0) (s .args .v) (c .before .before .row-at3 .result) A),
+        rw (c .before .far3 .ensures) (across-zero (s .args .n) (s .args .t .now) (s .pre .1 .0) (s .args .v) (c .before .before .row-at3 .result) A (s .pre .1 .3)),
+        c .before .before .before .before .visit2 .ensures .spread .len ∙ c .before .before .before .before .before .before .before .before .before .before .visit .ensures .spread .len ∙ length-set (s .args .marks .now) (s .args .v) 1 ∙ s .pre .1 .4,
+      ),
+    )
 
 visit-returns-3 : (t : ℕ) → visit-lts.Need-returns-3 (
   row-at-reads.Asked,

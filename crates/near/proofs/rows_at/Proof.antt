@@ -68,11 +68,12 @@ loop-again : tie.Need-loop-again Inv-loop μ-loop
 loop-again c =
     let i = c .before .before .before .before .before .before .before .loop .i in
     let a = c .before .before .before .before .before .before .before .loop .a in
-    let e = c .hook2 .ensures ∙ ap (λ (x : List ℕ). hooked x (c .before .before .before .before .hi .result) i) (c .before .before .hook .ensures) in
-    (omega arith,
-    ap length e ∙ length-hooked (hooked a (c .before .before .before .before .before .lo .result) i) (c .before .before .before .before .hi .result) i ∙ length-hooked a (c .before .before .before .before .before .lo .result) i ∙ c .before .before .before .before .before .before .before .loop .inv .1,
-    subst (λ (x : List ℕ). Upto (c .before .before .before .before .before .before .before .before .before .args .t .now) x (nodes (c .before .before .before .before .before .before .before .before .before .args .n)) (i + 1)) (sym e)
-    (upto-more (c .before .before .before .before .before .before .before .before .before .args .n) (c .before .before .before .before .before .before .before .before .before .args .t .now) (c .before .before .before .before .before .before .before .before .before .pre) i (c .before .before .before .before .before .before .loop-test .taken) a (c .before .before .before .before .before .lo .result) (c .before .before .before .before .hi .result) i (c .before .before .before .before .before .before .before .loop .inv .1) (c .before .before .before .before .before .lo .ensures) (c .before .before .before .before .hi .ensures) refl (c .before .before .before .before .before .before .before .loop .inv .2)))
+    let e = c .hook2 .ensures ∙ ap (λ (x : List ℕ). hooked x (c .before .before .before .before .hi .result) i) (c .before .before .hook .ensures) in (
+      omega arith,
+      ap length e ∙ length-hooked (hooked a (c .before .before .before .before .before .lo .result) i) (c .before .before .before .before .hi .result) i ∙ length-hooked a (c .before .before .before .before .before .lo .result) i ∙ c .before .before .before .before .before .before .before .loop .inv .1,
+      subst (λ (x : List ℕ). Upto (c .before .before .before .before .before .before .before .before .before .args .t .now) x (nodes (c .before .before .before .before .before .before .before .before .before .args .n)) (i + 1)) (sym e)
+          (upto-more (c .before .before .before .before .before .before .before .before .before .args .n) (c .before .before .before .before .before .before .before .before .before .args .t .now) (c .before .before .before .before .before .before .before .before .before .pre) i (c .before .before .before .before .before .before .loop-test .taken) a (c .before .before .before .before .before .lo .result) (c .before .before .before .before .hi .result) i (c .before .before .before .before .before .before .before .loop .inv .1) (c .before .before .before .before .before .lo .ensures) (c .before .before .before .before .hi .ensures) refl (c .before .before .before .before .before .before .before .loop .inv .2)),
+    )
 
 returns : tie.Need-returns Inv-loop μ-loop
 returns c =

@@ -76,9 +76,10 @@ fill-returns : (t : ℕ) → fill-lts.Need-returns (
 ) (fill-at t) fill.Post
 fill-returns t c =
     let s = c .before .before .before .before .before .before in
-    let A = s .pre .1 .0 in
-    (c .before .before .only .ensures ∙ taxa-one (s .args .n) (s .args .t .now) (s .args .e) (s .args .v) (A .good .valid) (c .before .before .before .if1 .taken) (A .row) (A .touch),
-    filled-one (s .args .n) (s .args .t .now) (s .args .e) (s .args .v) A (s .args .sides .now) _ (c .before .before .before .if1 .taken) (omega (arith, s .pre .1 .2, A .good .few)) (c .note .ensures))
+    let A = s .pre .1 .0 in (
+      c .before .before .only .ensures ∙ taxa-one (s .args .n) (s .args .t .now) (s .args .e) (s .args .v) (A .good .valid) (c .before .before .before .if1 .taken) (A .row) (A .touch),
+      filled-one (s .args .n) (s .args .t .now) (s .args .e) (s .args .v) A (s .args .sides .now) _ (c .before .before .before .if1 .taken) (omega (arith, s .pre .1 .2, A .good .few)) (c .note .ensures),
+    )
 
 fill-others-requires : (t : ℕ) → fill-lts.Need-others-requires (
   only-reads.Asked,
@@ -130,9 +131,10 @@ fill-fill-requires t c κs =
     let A = s .pre .1 .0 in
     let f = c .before .before .others .result .f in
     let g = c .before .before .others .result .g in
-    let K = two (s .args .n) (s .args .t .now) (s .args .near .now) (s .args .e) (s .args .v) f g A (s .pre .1 .1) (c .before .before .before .if1 .left) (c .before .before .others .ensures .0) (c .before .before .others .ensures .1) in
-    (omega (arith, s .pre .0, fall-f (s .args .n) (s .args .t .now) (s .args .e) (s .args .v) f g (c .before .far .result) _ A (c .before .before .before .if1 .left) K (c .before .far .ensures) refl),
-    (go-f (s .args .n) (s .args .t .now) (s .args .e) (s .args .v) f g (c .before .far .result) _ A (c .before .before .before .if1 .left) K (c .before .far .ensures) refl, s .pre .1 .1, s .pre .1 .2))
+    let K = two (s .args .n) (s .args .t .now) (s .args .near .now) (s .args .e) (s .args .v) f g A (s .pre .1 .1) (c .before .before .before .if1 .left) (c .before .before .others .ensures .0) (c .before .before .others .ensures .1) in (
+      omega (arith, s .pre .0, fall-f (s .args .n) (s .args .t .now) (s .args .e) (s .args .v) f g (c .before .far .result) _ A (c .before .before .before .if1 .left) K (c .before .far .ensures) refl),
+      (go-f (s .args .n) (s .args .t .now) (s .args .e) (s .args .v) f g (c .before .far .result) _ A (c .before .before .before .if1 .left) K (c .before .far .ensures) refl, s .pre .1 .1, s .pre .1 .2),
+    )
 
 fill-far-requires-2 : (t : ℕ) → fill-lts.Need-far-requires-2 (
   only-reads.Asked,
@@ -168,9 +170,10 @@ fill-fill-requires-2 t c κs =
     let A = s .pre .1 .0 in
     let f = c .before .before .before .before .before .others .result .f in
     let g = c .before .before .before .before .before .others .result .g in
-    let K = two (s .args .n) (s .args .t .now) (s .args .near .now) (s .args .e) (s .args .v) f g A (s .pre .1 .1) (c .before .before .before .before .before .before .if1 .left) (c .before .before .before .before .before .others .ensures .0) (c .before .before .before .before .before .others .ensures .1) in
-    (omega (arith, s .pre .0, fall-g (s .args .n) (s .args .t .now) (s .args .e) (s .args .v) f g (c .before .before .before .before .far .result) (c .before .far2 .result) A (c .before .before .before .before .before .before .if1 .left) K (c .before .before .before .before .far .ensures) (c .before .far2 .ensures)),
-    (go-g (s .args .n) (s .args .t .now) (s .args .e) (s .args .v) f g (c .before .before .before .before .far .result) (c .before .far2 .result) A (c .before .before .before .before .before .before .if1 .left) K (c .before .before .before .before .far .ensures) (c .before .far2 .ensures), s .pre .1 .1, c .before .before .fill .ensures .1 .len ∙ s .pre .1 .2))
+    let K = two (s .args .n) (s .args .t .now) (s .args .near .now) (s .args .e) (s .args .v) f g A (s .pre .1 .1) (c .before .before .before .before .before .before .if1 .left) (c .before .before .before .before .before .others .ensures .0) (c .before .before .before .before .before .others .ensures .1) in (
+      omega (arith, s .pre .0, fall-g (s .args .n) (s .args .t .now) (s .args .e) (s .args .v) f g (c .before .before .before .before .far .result) (c .before .far2 .result) A (c .before .before .before .before .before .before .if1 .left) K (c .before .before .before .before .far .ensures) (c .before .far2 .ensures)),
+      (go-g (s .args .n) (s .args .t .now) (s .args .e) (s .args .v) f g (c .before .before .before .before .far .result) (c .before .far2 .result) A (c .before .before .before .before .before .before .if1 .left) K (c .before .before .before .before .far .ensures) (c .before .far2 .ensures), s .pre .1 .1, c .before .before .fill .ensures .1 .len ∙ s .pre .1 .2),
+    )
 
 fill-note-requires-2 : (t : ℕ) → fill-lts.Need-note-requires-2 (
   only-reads.Asked,
@@ -209,9 +212,10 @@ fill-returns-2 t c =
     let A = s .pre .1 .0 in
     let f = c .before .before .before .before .before .before .before .before .others .result .f in
     let g = c .before .before .before .before .before .before .before .before .others .result .g in
-    let K = two (s .args .n) (s .args .t .now) (s .args .near .now) (s .args .e) (s .args .v) f g A (s .pre .1 .1) (c .before .before .before .before .before .before .before .before .before .if1 .left) (c .before .before .before .before .before .before .before .before .others .ensures .0) (c .before .before .before .before .before .before .before .before .others .ensures .1) in
-    (union (s .args .n) (s .args .t .now) (s .args .e) (s .args .v) f g (c .before .before .before .before .before .before .before .far .result) (c .before .before .before .before .far2 .result) A (c .before .before .before .before .before .before .before .before .before .if1 .left) K (c .before .before .before .before .before .before .before .far .ensures) (c .before .before .before .before .far2 .ensures) (c .before .before .before .before .before .fill .result) (c .before .before .fill2 .result) (c .before .before .before .before .before .fill .ensures .0) (c .before .before .fill2 .ensures .0),
-    filled-two (s .args .n) (s .args .t .now) (s .args .e) (s .args .v) A f g (c .before .before .before .before .before .before .before .far .result) (c .before .before .before .before .far2 .result) (s .args .sides .now) _ _ _ (c .before .before .before .before .before .before .before .before .before .if1 .left) K (c .before .before .before .before .before .before .before .far .ensures) (c .before .before .before .before .far2 .ensures) (omega (arith, s .pre .1 .2, A .good .few)) (c .before .before .before .before .before .fill .ensures .1) (c .before .before .fill2 .ensures .1) (c .note2 .ensures))
+    let K = two (s .args .n) (s .args .t .now) (s .args .near .now) (s .args .e) (s .args .v) f g A (s .pre .1 .1) (c .before .before .before .before .before .before .before .before .before .if1 .left) (c .before .before .before .before .before .before .before .before .others .ensures .0) (c .before .before .before .before .before .before .before .before .others .ensures .1) in (
+      union (s .args .n) (s .args .t .now) (s .args .e) (s .args .v) f g (c .before .before .before .before .before .before .before .far .result) (c .before .before .before .before .far2 .result) A (c .before .before .before .before .before .before .before .before .before .if1 .left) K (c .before .before .before .before .before .before .before .far .ensures) (c .before .before .before .before .far2 .ensures) (c .before .before .before .before .before .fill .result) (c .before .before .fill2 .result) (c .before .before .before .before .before .fill .ensures .0) (c .before .before .fill2 .ensures .0),
+      filled-two (s .args .n) (s .args .t .now) (s .args .e) (s .args .v) A f g (c .before .before .before .before .before .before .before .far .result) (c .before .before .before .before .far2 .result) (s .args .sides .now) _ _ _ (c .before .before .before .before .before .before .before .before .before .if1 .left) K (c .before .before .before .before .before .before .before .far .ensures) (c .before .before .before .before .far2 .ensures) (omega (arith, s .pre .1 .2, A .good .few)) (c .before .before .before .before .before .fill .ensures .1) (c .before .before .fill2 .ensures .1) (c .note2 .ensures),
+    )
 
 pub +fill-spec : {M : Type 1} → statement M
 +fill-spec = close μ-fill λ t. fill-lts.spec (

@@ -59,11 +59,12 @@ compare-lists-requires : tie.Need-compare-lists-requires
 compare-lists-requires c κs =
     let s = c .before .before .before .before .before .before .before .before .before .before .before .before in
     let p = listed-prefix _ _ _ _ (c .before .before .before .before .before .before .tree-splits .ensures) in
-    let q = listed-prefix _ _ _ _ (c .before .before .before .tree-splits2 .ensures) in
-    (subst Asc (sym p) (splits-asc (s .args .n) (s .args .t .now) (s .args .y)),
-    subst Asc (sym q) (splits-asc (s .args .n) (s .args .u .now) (s .args .y)),
-    omega (arith, ap length p, splits-few (s .args .n) (s .args .t .now) (s .args .y), s .pre .0 .few),
-    omega (arith, ap length q, splits-few (s .args .n) (s .args .u .now) (s .args .y), s .pre .0 .few))
+    let q = listed-prefix _ _ _ _ (c .before .before .before .tree-splits2 .ensures) in (
+      subst Asc (sym p) (splits-asc (s .args .n) (s .args .t .now) (s .args .y)),
+      subst Asc (sym q) (splits-asc (s .args .n) (s .args .u .now) (s .args .y)),
+      omega (arith, ap length p, splits-few (s .args .n) (s .args .t .now) (s .args .y), s .pre .0 .few),
+      omega (arith, ap length q, splits-few (s .args .n) (s .args .u .now) (s .args .y), s .pre .0 .few),
+    )
 
 returns : tie.Need-returns
 returns c =

@@ -58,9 +58,10 @@ without-requires c κs =
 add-requires : tie.Need-add-requires Inv-loop μ-loop
 add-requires c κs =
     let s = c .before .before .before .before .before .before .before .before in
-    let ex = c .before .without .ensures ∙ without-split (s .args .n) (s .args .y) _ (c .before .before .before .before .before .lowest .result) (s .pre .1) (s .pre .2) (c .before .before .before .before .before .before .if1 .left) (c .before .before .before .before .before .lowest .ensures) in
-    (listed-fits (s .args .n) (s .args .y) (s .args .sides .now) (s .args .out .now) (s .pre .3) (c .before .before .before .before .loop .out) (c .before .before .before .before .loop .len) (c .before .before .before .before .loop .i) (c .before .before .before .before .loop .inv .0) (c .before .before .before .before .loop .inv .1),
-    listed-room (s .args .n) (s .args .y) (s .args .sides .now) (s .args .out .now) (s .pre .3) (c .before .before .before .before .loop .out) (c .before .before .before .before .loop .len) (c .before .before .before .before .loop .i) (c .before .before .before .before .loop .inv .0) (c .before .before .before .before .loop .inv .1) (c .before .without .result) (c .before .before .before .loop-test .taken) ex)
+    let ex = c .before .without .ensures ∙ without-split (s .args .n) (s .args .y) _ (c .before .before .before .before .before .lowest .result) (s .pre .1) (s .pre .2) (c .before .before .before .before .before .before .if1 .left) (c .before .before .before .before .before .lowest .ensures) in (
+      listed-fits (s .args .n) (s .args .y) (s .args .sides .now) (s .args .out .now) (s .pre .3) (c .before .before .before .before .loop .out) (c .before .before .before .before .loop .len) (c .before .before .before .before .loop .i) (c .before .before .before .before .loop .inv .0) (c .before .before .before .before .loop .inv .1),
+      listed-room (s .args .n) (s .args .y) (s .args .sides .now) (s .args .out .now) (s .pre .3) (c .before .before .before .before .loop .out) (c .before .before .before .before .loop .len) (c .before .before .before .before .loop .i) (c .before .before .before .before .loop .inv .0) (c .before .before .before .before .loop .inv .1) (c .before .without .result) (c .before .before .before .loop-test .taken) ex,
+    )
 
 add-i : tie.Need-add-i Inv-loop μ-loop
 add-i c = search needs

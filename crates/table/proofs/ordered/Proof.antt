@@ -66,9 +66,11 @@ loop-again : tie.Need-loop-again Inv-loop μ-loop
 loop-again c =
     let t = c .before .before .before .before .before .before .before .args .t .now in
     let n = c .before .before .before .before .before .before .before .args .n in
-    let i = c .before .before .before .before .before .loop .i in
-    (omega arith, every-more (inOrder n t) i (c .before .before .before .before .before .loop .inv .1)
-    (ap₂ _&&_ (lt-ltb (lo t i) (hi t i) (omega (arith, c .before .if1 .left, c .before .before .before .lo .ensures, c .before .before .hi .ensures))) (le-leb (hi t i) (2 * n - 3) (omega (arith, c .if2 .left, c .before .before .hi .ensures)))))
+    let i = c .before .before .before .before .before .loop .i in (
+      omega arith,
+      every-more (inOrder n t) i (c .before .before .before .before .before .loop .inv .1)
+          (ap₂ _&&_ (lt-ltb (lo t i) (hi t i) (omega (arith, c .before .if1 .left, c .before .before .before .lo .ensures, c .before .before .hi .ensures))) (le-leb (hi t i) (2 * n - 3) (omega (arith, c .if2 .left, c .before .before .hi .ensures)))),
+    )
 
 returns-3 : tie.Need-returns-3 Inv-loop μ-loop
 returns-3 c =
