@@ -3,7 +3,7 @@
 -- lacks that one too, or cutting it down would give the first. Different ones come from different ones, since cutting down gives them back.
 -- Assumes nothing.
 use mathlib.Core.Path.{_≡_, refl, sym, ap, ap₂, _∙_}
-use mathlib.Core.Logic.{_⊎_, inl, inr}
+use mathlib.Core.Logic.{_⊎_, inl, inr, _↔_}
 use mathlib.Core.Bool.{Bool, true, false, true≢false}
 use mathlib.Core.List.{List, [], _∷_}
 use Prim.Native.Nat.{ℕ, zero, suc, _+_, _^_, _≤_, _<_, zero-le}
@@ -12,13 +12,13 @@ use native.Mathlib.Omega.{arith}
 use lib.Dec.{eqb}
 use borrow.Author.Tests.{eqb-true, eq-eqb}
 use Rattle.taxa.specs.Sets.{tally, some, Sub}
-use Rattle.taxa.proofs.Bools.{either}
+use Rattle.taxa.proofs.Bools.{either, bool-eq}
 use Rattle.taxa.proofs.Sets.{sub-lt}
 use Rattle.taxa.proofs.Sizes.{tally-le}
 use Rattle.tree.specs.Tree.{rows}
 use Rattle.tree.specs.Lists.{mem, lacks}
 use Rattle.tree.specs.Splits.{side, split, splits, dist, unchanged, Gains}
-use Rattle.tree.proofs.Lists.{lacks-le}
+use Rattle.tree.proofs.Lists.{lacks-le, lacks-none, none-lacks, asc-eq}
 use Rattle.tree.proofs.SplitLaws.{num, split-split, meets-mono, kept-in, kept-out, into, out-of, splits-asc}
 
 module _ (n y₁ y₂ : ℕ) (sub : Sub y₁ y₂) (bound₂ : y₂ < 2 ^ n) where
@@ -69,3 +69,12 @@ unchanged-mono n t u (y ∷ ys) (z ∷ zs) g =
     (tally-le (eqb (dist n t u z) 0) (eqb (dist n t u y) 0) (λ h.
     eq-eqb (dist n t u y) 0 (same-mono n y z (g .0) (g .1) t u (eqb-true (dist n t u z) 0 h))))
     (unchanged-mono n t u ys zs (g .2))
+
+-- ---- the same exactly when the induced split sets are equal
+pub same-iff : (n : ℕ) (t u : List ℕ) (y : ℕ) → (dist n t u y ≡ 0) ↔ (splits n t y ≡ splits n u y)
+unfolding dist
+same-iff n t u y = (
+  λ h. asc-eq (splits n t y) (splits n u y) (splits-asc n t y) (splits-asc n u y) (λ z.
+      bool-eq (mem z (splits n t y)) (mem z (splits n u y)) (none-lacks (splits n t y) (splits n u y) (omega arith) z) (none-lacks (splits n u y) (splits n t y) (omega arith) z)),
+  λ h. omega (arith, lacks-none (splits n t y) (splits n u y) (λ z p. ap (mem z) (sym h) ∙ p), lacks-none (splits n u y) (splits n t y) (λ z p. ap (mem z) h ∙ p)),
+)

@@ -5,7 +5,7 @@ use mathlib.Core.Bool.{Bool, true, false, _&&_}
 use mathlib.Core.List.{List, [], _∷_, _++_}
 use lib.Dec.{eqb, ltb, leb}
 use lib.ListN.{length}
-use Rattle.taxa.specs.Most.{most}
+use Rattle.taxa.specs.Most.{most, mostPartitions}
 use Rattle.tree.specs.Tree.{rows, nodes, inOrder, rightDegree, fromZero, every, Valid}
 
 infixr 20 _else_
@@ -47,6 +47,15 @@ tableChecks n t = rowChecks n t ++ reachChecks n t
 -- 6: a partition names a taxon n or above.
 abbrev pub partitionChecks : ℕ → ℕ → List Check
 partitionChecks n y = (ltb y (2 ^ n) else 6) ∷ []
+
+-- A test holds of each number on a list.
+unfoldable pub each : (ℕ → Bool) → List ℕ → Bool
+each f [] = true
+each f (y ∷ ys) = f y && each f ys
+
+-- 6, of a list of partitions: it has none or too many, or one of them names a taxon n or above.
+abbrev pub partitionsChecks : ℕ → List ℕ → List Check
+partitionsChecks n ys = ((leb 1 (length ys) && leb (length ys) mostPartitions && each (λ y. ltb y (2 ^ n)) ys) else 6) ∷ []
 
 -- 11: the lent output, which holds `room` numbers, is too short for an answer of `need`.
 abbrev pub roomChecks : ℕ → ℕ → List Check

@@ -54,6 +54,11 @@ dist n t u y =
 unfoldable pub missing : ℕ → List ℕ → List ℕ → ℕ → ℕ
 missing n t u y = firstLack (splits n t y) (splits n u y)
 
+-- The distance over each partition on a list.
+unfoldable pub distances : ℕ → List ℕ → List ℕ → List ℕ → List ℕ
+distances n t u [] = []
+distances n t u (y ∷ ys) = dist n t u y ∷ distances n t u ys
+
 -- Of how many partitions on a list the induced splits are the same in both trees.
 unfoldable pub unchanged : ℕ → List ℕ → List ℕ → List ℕ → ℕ
 unchanged n t u [] = 0

@@ -1,0 +1,229 @@
+-- A node p moved from between r and s to between u and z, and what each row parts afterwards. Assumes nothing.
+use mathlib.Core.Path.{_≡_, refl, sym, ap, ap₂, _∙_}
+use mathlib.Core.Logic.{_⊎_, inl, inr}
+use mathlib.Core.Bool.{Bool, true, false, not, _||_, or-true, Bool·not-not}
+use mathlib.Core.List.{List}
+use Prim.Native.Nat.{ℕ, _<_}
+use lib.Dec.{eqb}
+use lib.Bits.{bitXor}
+use borrow.Author.Tests.{eqb-true, eqb-false, eq-eqb, ne-eqb}
+use Rattle.taxa.specs.Sets.{has, add}
+use Rattle.taxa.proofs.Bools.{either, _⊕_, not-swap}
+use Rattle.taxa.proofs.Sets.{has-add, has-xor}
+use Rattle.tree.specs.Tree.{lo, hi, rows, Valid}
+use Rattle.tree.proofs.Rounds.{Flat}
+use Rattle.tree.proofs.Joins.{Joins, join-flat, flat-join, join-apart, apart-join, joins-differ}
+use Rattle.tree.proofs.Colourings.{Parts, Hangs}
+use Rattle.tree.proofs.Forks.{Fork}
+
+-- before: p has rows a to o, h to s, w to r, and row b is u-z; after: row F is r-s, row N is u-p, row X is p-z. M is what hangs beyond a.
+pub record Graft (n : ℕ) (t t′ : List ℕ) (a w h b F N X p o r s u z M : ℕ) : Type 0 where
+  pub valid : Valid n t
+  pub valid′ : Valid n t′
+  pub fork : Fork n t p a h w o s r
+  pub b-row : Joins t b u z
+  pub b-lt : b < rows n
+  pub ba : b ≡ a → ⊥
+  pub bw : b ≡ w → ⊥
+  pub bh : b ≡ h → ⊥
+  pub F-row : Joins t′ F r s
+  pub N-row : Joins t′ N u p
+  pub X-row : Joins t′ X p z
+  pub F-lt : F < rows n
+  pub N-lt : N < rows n
+  pub X-lt : X < rows n
+  pub keep : (j : ℕ) → (j ≡ F → ⊥) → (j ≡ N → ⊥) → (j ≡ X → ⊥) → (j ≡ w → ⊥) × (j ≡ h → ⊥) × (j ≡ b → ⊥)
+  pub same : (j : ℕ) → (j ≡ w → ⊥) → (j ≡ h → ⊥) → (j ≡ b → ⊥) → (lo t′ j ≡ lo t j) × (hi t′ j ≡ hi t j)
+  pub hM : Hangs n t a p M
+  pub M-u : has M u ≡ false
+
+xor-true : (x : Bool) → (x ⊕ true) ≡ not x
+xor-true true = refl
+xor-true false = refl
+
+xor-false : (x : Bool) → (x ⊕ false) ≡ x
+xor-false true = refl
+xor-false false = refl
+
+-- the set S with the members of M and p exchanged: those in S leave it, the others come into it
+pub crossed : ℕ → ℕ → ℕ → ℕ
+crossed M p S = bitXor S (add M p)
+
+pub has-crossed : (M p S i : ℕ) → has (crossed M p S) i ≡ (has S i ⊕ (has M i || eqb p i))
+unfolding crossed
+has-crossed M p S i = has-xor S (add M p) i ∙ ap (λ (x : Bool). has S i ⊕ x) (has-add M p i)
+
+module _ {n : ℕ} {t t′ : List ℕ} {a w h b F N X p o r s u z M : ℕ} (k : Graft n t t′ a w h b F N X p o r s u z M) where
+  pub pr : p ≡ r → ⊥
+  pr = joins-differ n t w (k .valid) (k .fork .f-lt) p r (k .fork .f-row)
+
+  pub ps : p ≡ s → ⊥
+  ps = joins-differ n t h (k .valid) (k .fork .x-lt) p s (k .fork .x-row)
+
+  -- ---- which colourings are flat after, row e left out
+  flat-after : (e : ℕ) (c : ℕ → Bool) → ((F ≡ e → ⊥) → c r ≡ c s) → ((N ≡ e → ⊥) → c u ≡ c p) → ((X ≡ e → ⊥) → c p ≡ c z)
+      → ((j : ℕ) → j < rows n → (j ≡ e → ⊥) → (j ≡ w → ⊥) → (j ≡ h → ⊥) → (j ≡ b → ⊥) → c (lo t j) ≡ c (hi t j)) → Flat t′ e (rows n) c
+  flat-after e c cF cN cX rest j l d = go (either (eqb j F)) (either (eqb j N)) (either (eqb j X))
+    where
+      go : (eqb j F ≡ true) ⊎ (eqb j F ≡ false) → (eqb j N ≡ true) ⊎ (eqb j N ≡ false) → (eqb j X ≡ true) ⊎ (eqb j X ≡ false) → c (lo t′ j) ≡ c (hi t′ j)
+      go (inl x) y v = let q = eqb-true j F x in rw q (join-flat t′ F r s c (k .F-row) (cF (λ i. d (q ∙ i))))
+      go (inr x) (inl y) v = let q = eqb-true j N y in rw q (join-flat t′ N u p c (k .N-row) (cN (λ i. d (q ∙ i))))
+      go (inr x) (inr y) (inl v) = let q = eqb-true j X v in rw q (join-flat t′ X p z c (k .X-row) (cX (λ i. d (q ∙ i))))
+      go (inr x) (inr y) (inr v) =
+          let q = k .keep j (eqb-false j F x) (eqb-false j N y) (eqb-false j X v) in
+          let m = k .same j (q .0) (q .1) (q .2) in
+          ap c (m .0) ∙ rest j l d (q .0) (q .1) (q .2) ∙ sym (ap c (m .1))
+
+  -- ---- flatness before, across the rows with names
+  at-w : (c : ℕ → Bool) → c (lo t w) ≡ c (hi t w) → c p ≡ c r
+  at-w c q = flat-join t w p r c (k .fork .f-row) q
+
+  at-h : (c : ℕ → Bool) → c (lo t h) ≡ c (hi t h) → c p ≡ c s
+  at-h c q = flat-join t h p s c (k .fork .x-row) q
+
+  at-o : (c : ℕ → Bool) → c (lo t a) ≡ c (hi t a) → c p ≡ c o
+  at-o c q = flat-join t a p o c (k .fork .e-row) q
+
+  at-b : (c : ℕ → Bool) → c (lo t b) ≡ c (hi t b) → c u ≡ c z
+  at-b c q = flat-join t b u z c (k .b-row) q
+
+  -- a row that leaves p and b together keeps its set
+  pub keep-parts : (e S : ℕ) → (e ≡ w → ⊥) → (e ≡ h → ⊥) → (e ≡ b → ⊥) → Parts n t e S → has S p ≡ has S u → Parts n t′ e S
+  keep-parts e S ew eh eb q pu =
+      let c = has S in
+      let m = k .same e ew eh eb in
+      let rw′ = at-w c (q .closed w (k .fork .f-lt) (λ i. ew (sym i))) in
+      let sh = at-h c (q .closed h (k .fork .x-lt) (λ i. eh (sym i))) in
+      let uz = at-b c (q .closed b (k .b-lt) (λ i. eb (sym i))) in
+      record {
+        apart = ap c (m .0) ∙ q .apart ∙ sym (ap (λ (i : ℕ). not (c i)) (m .1));
+        closed = flat-after e c (λ i. sym rw′ ∙ sh) (λ i. sym pu) (λ i. pu ∙ uz) (λ j l d x y v. q .closed j l d);
+      }
+
+  -- row a is as before, and parts what it parted
+  pub a-same : (lo t′ a ≡ lo t a) × (hi t′ a ≡ hi t a)
+  a-same = k .same a (k .fork .ef) (k .fork .ex) (λ d. k .ba (sym d))
+
+  pub a-parts : Parts n t′ a M
+  a-parts = keep-parts a M (k .fork .ef) (k .fork .ex) (λ d. k .ba (sym d)) (k .hM .parts) (k .hM .out ∙ sym (k .M-u))
+
+  -- a set that hangs from p beyond h, without b, is what F parts
+  pub hang-parts : (H : ℕ) → Hangs n t h p H → has H u ≡ false → Parts n t′ F H
+  hang-parts H q Hu =
+      let c = has H in
+      let rw′ = at-w c (q .parts .closed w (k .fork .f-lt) (λ i. k .fork .xf (sym i))) in
+      let uz = at-b c (q .parts .closed b (k .b-lt) (k .bh)) in
+      record {
+        apart = join-apart t′ F r s c (k .F-row) (sym rw′ ∙ apart-join t h p s c (k .fork .x-row) (q .parts .apart));
+        closed = flat-after F c (λ i. absurd (i refl)) (λ i. Hu ∙ sym (q .out)) (λ i. q .out ∙ sym Hu ∙ uz) (λ j l d x y v. q .parts .closed j l y);
+      }
+
+  -- what lies beyond b is what X parts
+  pub far-parts : (D : ℕ) → Hangs n t b u D → has D p ≡ false → Parts n t′ X D
+  far-parts D q Dp =
+      let c = has D in
+      let rw′ = at-w c (q .parts .closed w (k .fork .f-lt) (λ i. k .bw (sym i))) in
+      let sh = at-h c (q .parts .closed h (k .fork .x-lt) (λ i. k .bh (sym i))) in
+      record {
+        apart = join-apart t′ X p z c (k .X-row) (Dp ∙ sym (q .out) ∙ apart-join t b u z c (k .b-row) (q .parts .apart));
+        closed = flat-after X c (λ i. sym rw′ ∙ sh) (λ i. q .out ∙ sym Dp) (λ i. absurd (i refl)) (λ j l d x y v. q .parts .closed j l v);
+      }
+
+  -- ---- M and p exchanged: at a node of M and at p the set turns over, elsewhere it stays
+  turned : (S i : ℕ) → (has M i || eqb p i) ≡ true → has (crossed M p S) i ≡ not (has S i)
+  turned S i q = has-crossed M p S i ∙ ap (λ (x : Bool). has S i ⊕ x) q ∙ xor-true (has S i)
+
+  left : (S i : ℕ) → has M i ≡ false → (p ≡ i → ⊥) → has (crossed M p S) i ≡ has S i
+  left S i q d = has-crossed M p S i ∙ ap₂ (λ (x y : Bool). has S i ⊕ (x || y)) q (ne-eqb p i d) ∙ xor-false (has S i)
+
+  -- of the named nodes M has o alone
+  pub M-o : has M o ≡ true
+  M-o = not-swap (has M p) (has M o) (apart-join t a p o (has M) (k .fork .e-row) (k .hM .parts .apart)) ∙ ap not (k .hM .out)
+
+  pub M-r : has M r ≡ false
+  M-r = sym (at-w (has M) (k .hM .parts .closed w (k .fork .f-lt) (λ i. k .fork .ef (sym i)))) ∙ k .hM .out
+
+  pub M-s : has M s ≡ false
+  M-s = sym (at-h (has M) (k .hM .parts .closed h (k .fork .x-lt) (λ i. k .fork .ex (sym i)))) ∙ k .hM .out
+
+  pub M-z : has M z ≡ false
+  M-z = sym (at-b (has M) (k .hM .parts .closed b (k .b-lt) (k .ba))) ∙ k .M-u
+
+  -- b is not at p
+  pub only-b : (p ≡ u → ⊥) × (p ≡ z → ⊥)
+  only-b = go (k .b-row)
+    where
+      q : (p ≡ lo t b → ⊥) × (p ≡ hi t b → ⊥)
+      q = k .fork .only b (k .b-lt) (k .ba) (k .bh) (k .bw)
+
+      go : Joins t b u z → (p ≡ u → ⊥) × (p ≡ z → ⊥)
+      go (inl j) = (λ i. q .0 (i ∙ sym (j .0)), λ i. q .1 (i ∙ sym (j .1)))
+      go (inr j) = (λ i. q .1 (i ∙ sym (j .1)), λ i. q .0 (i ∙ sym (j .0)))
+
+  X-p : (S : ℕ) → has (crossed M p S) p ≡ not (has S p)
+  X-p S = turned S p (ap (λ (x : Bool). has M p || x) (eq-eqb p p refl) ∙ or-true (has M p))
+
+  X-o : (S : ℕ) → has (crossed M p S) o ≡ not (has S o)
+  X-o S = turned S o (ap (λ (x : Bool). x || eqb p o) M-o)
+
+  -- flat at a row that touches p at no end, and is not a
+  crossed-row : (S j : ℕ) → j < rows n → (j ≡ a → ⊥) → (j ≡ w → ⊥) → (j ≡ h → ⊥) → has S (lo t j) ≡ has S (hi t j) → has (crossed M p S) (lo t j) ≡ has (crossed M p S) (hi t j)
+  crossed-row S j l ja jw jh q =
+      let d = k .fork .only j l ja jh jw in
+      has-crossed M p S (lo t j)
+      ∙ ap₂ _⊕_ q (ap₂ _||_ (k .hM .parts .closed j l ja) (ne-eqb p (lo t j) (d .0) ∙ sym (ne-eqb p (hi t j) (d .1))))
+      ∙ sym (has-crossed M p S (hi t j))
+
+  crossed-apart : (S j : ℕ) → j < rows n → (j ≡ a → ⊥) → (j ≡ w → ⊥) → (j ≡ h → ⊥) → has S (lo t j) ≡ not (has S (hi t j)) → has (crossed M p S) (lo t j) ≡ not (has (crossed M p S) (hi t j))
+  crossed-apart S j l ja jw jh q =
+      let d = k .fork .only j l ja jh jw in
+      has-crossed M p S (lo t j)
+      ∙ ap₂ _⊕_ q (ap₂ _||_ (k .hM .parts .closed j l ja) (ne-eqb p (lo t j) (d .0) ∙ sym (ne-eqb p (hi t j) (d .1))))
+      ∙ pull (has S (hi t j)) (has M (hi t j) || eqb p (hi t j))
+      ∙ sym (ap not (has-crossed M p S (hi t j)))
+    where
+      pull : (x y : Bool) → (not x ⊕ y) ≡ not (x ⊕ y)
+      pull true y = sym (Bool·not-not y)
+      pull false y = refl
+
+  -- where S parts p from z, and from u unless row N is left out, S with M and p exchanged is flat
+  crossed-flat : (e e′ S : ℕ) → (e ≡ a → ⊥) → (e ≡ w → ⊥) → (e ≡ h → ⊥) → Parts n t e S → has S z ≡ not (has S p)
+      → ((N ≡ e′ → ⊥) → has S u ≡ not (has S p)) → ((j : ℕ) → (j ≡ e′ → ⊥) → (j ≡ b → ⊥) → j ≡ e → ⊥) → Flat t′ e′ (rows n) (has (crossed M p S))
+  crossed-flat e e′ S ea ew eh q zp up ne =
+      let c = has S in
+      let rw′ = at-w c (q .closed w (k .fork .f-lt) (λ i. ew (sym i))) in
+      let sh = at-h c (q .closed h (k .fork .x-lt) (λ i. eh (sym i))) in
+      flat-after e′ (has (crossed M p S))
+      (λ i. left S r M-r pr ∙ sym rw′ ∙ sh ∙ sym (left S s M-s ps))
+      (λ i. left S u (k .M-u) (only-b .0) ∙ up i ∙ sym (X-p S))
+      (λ i. X-p S ∙ sym zp ∙ sym (left S z M-z (only-b .1)))
+      other
+    where
+      other : (j : ℕ) → j < rows n → (j ≡ e′ → ⊥) → (j ≡ w → ⊥) → (j ≡ h → ⊥) → (j ≡ b → ⊥) → has (crossed M p S) (lo t j) ≡ has (crossed M p S) (hi t j)
+      other j l d jw jh jb = go (either (eqb j a))
+        where
+          go : (eqb j a ≡ true) ⊎ (eqb j a ≡ false) → has (crossed M p S) (lo t j) ≡ has (crossed M p S) (hi t j)
+          go (inl v) =
+              rw (eqb-true j a v) (join-flat t a p o (has (crossed M p S)) (k .fork .e-row)
+              (X-p S ∙ ap not (at-o (has S) (q .closed a (k .fork .e-lt) (λ i. ea (sym i)))) ∙ sym (X-o S)))
+          go (inr v) = crossed-row S j l (eqb-false j a v) jw jh (q .closed j l (ne j d jb))
+
+  -- a row that parts p from b exchanges M and p
+  pub cross-parts : (e S : ℕ) → e < rows n → (e ≡ a → ⊥) → (e ≡ w → ⊥) → (e ≡ h → ⊥) → (e ≡ b → ⊥) → Parts n t e S → has S z ≡ not (has S p) → Parts n t′ e (crossed M p S)
+  cross-parts e S l ea ew eh eb q zp =
+      let m = k .same e ew eh eb in
+      let uz = at-b (has S) (q .closed b (k .b-lt) (λ i. eb (sym i))) in
+      record {
+        apart = ap (has (crossed M p S)) (m .0) ∙ crossed-apart S e l ea ew eh (q .apart) ∙ sym (ap (λ (i : ℕ). not (has (crossed M p S) i)) (m .1));
+        closed = crossed-flat e e S ea ew eh q zp (λ i. uz ∙ zp) (λ j d jb. d);
+      }
+
+  -- b's set at u, less M and p, is what N parts
+  pub near-parts : (S : ℕ) → Parts n t b S → has S p ≡ has S u → Parts n t′ N (crossed M p S)
+  near-parts S q pu =
+      let zp : has S z ≡ not (has S p) = not-swap (has S u) (has S z) (apart-join t b u z (has S) (k .b-row) (q .apart)) ∙ sym (ap not pu) in
+      record {
+        apart = join-apart t′ N u p (has (crossed M p S)) (k .N-row)
+            (left S u (k .M-u) (only-b .0) ∙ sym pu ∙ sym (Bool·not-not (has S p)) ∙ sym (ap not (X-p S)));
+        closed = crossed-flat b N S (k .ba) (k .bw) (k .bh) q zp (λ i. absurd (i refl)) (λ j d jb. jb);
+      }

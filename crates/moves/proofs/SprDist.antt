@@ -1,0 +1,207 @@
+-- An end moved onto a row that fits: the distance by the groups met on the way. Assumes nothing.
+use mathlib.Core.Path.{_≡_, refl, sym, ap, _∙_, subst}
+use mathlib.Core.Logic.{_⊎_, inl, inr}
+use mathlib.Core.Bool.{true, false}
+use mathlib.Core.List.{List}
+use Prim.Native.Nat.{ℕ, _*_, _-_, _^_, _<_}
+use lib.Dec.{eqb}
+use lib.Bits.{bitAnd}
+use borrow.Author.Tests.{eqb-true, eqb-false}
+use Rattle.taxa.specs.Sets.{pick, has, some}
+use Rattle.taxa.proofs.Bools.{either}
+use Rattle.tree.specs.Tree.{rows, nodes, touches, far, part}
+use Rattle.tree.specs.Splits.{splits, dist}
+use Rattle.tree.proofs.Joins.{Joins, touch-joins, joins-touch, joins-flip, joins-differ, touch-node, far-is}
+use Rattle.tree.proofs.Colourings.{Hangs, hangs}
+use Rattle.tree.proofs.RowCounts.{Pair, pair}
+use Rattle.tree.proofs.Forks.{Fork}
+use Rattle.moves.specs.Moves.{moveEnd}
+use Rattle.moves.specs.Groups.{walk, met}
+use Rattle.moves.proofs.SprMove.{EndFits, moveEnd-eq, after, after-valid, rest, f-row, b-row, g-row, hM}
+use Rattle.moves.proofs.Chain.{Chain}
+use Rattle.moves.proofs.ChainCount.{chain-dist}
+use Rattle.moves.proofs.Graft.{Graft}
+use Rattle.moves.proofs.Walk.{Taxa, Walk, next, done, fork-turn}
+use Rattle.moves.proofs.WalkIs.{Ahead, Found, walk-from}
+use Rattle.moves.proofs.SprChain.{spr-chain}
+
+-- f and g are p's two rows other than a, f the lower
+module _ {n : ℕ} {t : List ℕ} {p a b f g : ℕ} (k : EndFits n t p a b) (K : Pair n t a p f g) where
+  abbrev t′ : List ℕ
+  t′ = after n t p a b f g k K
+
+  -- w is the one on the way to b = u-z, and h the other
+  module _ {w h r s u z : ℕ} (q : Fork n t p w a h r (far t a p) s) (jb : Joins t b u z) where
+    ps : p ≡ s → ⊥
+    ps = joins-differ n t h (k .valid) (q .f-lt) p s (q .f-row)
+
+    po : p ≡ far t a p → ⊥
+    po = joins-differ n t a (k .valid) (k .a-lt) p (far t a p) (q .x-row)
+
+    w-p : touches t w p ≡ true
+    w-p = joins-touch t w p r (q .e-row)
+
+    h-p : touches t h p ≡ true
+    h-p = joins-touch t h p s (q .f-row)
+
+    which : (j : ℕ) → j < rows n → (j ≡ a → ⊥) → touches t j p ≡ true → (j ≡ f) ⊎ (j ≡ g)
+    which j l ja tj = go (either (eqb j f)) (either (eqb j g))
+      where
+        go : (eqb j f ≡ true) ⊎ (eqb j f ≡ false) → (eqb j g ≡ true) ⊎ (eqb j g ≡ false) → (j ≡ f) ⊎ (j ≡ g)
+        go (inl x) y = inl (eqb-true j f x)
+        go (inr x) (inl y) = inr (eqb-true j g y)
+        go (inr x) (inr y) = absurd (K .only j l ja (eqb-false j f x) (eqb-false j g y) tj)
+
+    -- w and h are f and g
+    Two : Type 0
+    Two = ((w ≡ f) × (h ≡ g)) ⊎ ((w ≡ g) × (h ≡ f))
+
+    two : Two
+    unfolding Two
+    two = go (which w (q .e-lt) (q .ex) w-p) (which h (q .f-lt) (λ d. q .xf (sym d)) h-p)
+      where
+        go : (w ≡ f) ⊎ (w ≡ g) → (h ≡ f) ⊎ (h ≡ g) → ((w ≡ f) × (h ≡ g)) ⊎ ((w ≡ g) × (h ≡ f))
+        go (inl x) (inl y) = absurd (q .ef (x ∙ sym y))
+        go (inl x) (inr y) = inl (x, y)
+        go (inr x) (inl y) = inr (x, y)
+        go (inr x) (inr y) = absurd (q .ef (x ∙ sym y))
+
+    F-joins : Joins t′ f r s
+    unfolding Two
+    F-joins = go two
+      where
+        far-w : far t w p ≡ r
+        far-w = far-is t w p r (q .e-row) (q .pq)
+
+        far-h : far t h p ≡ s
+        far-h = far-is t h p s (q .f-row) ps
+
+        go : ((w ≡ f) × (h ≡ g)) ⊎ ((w ≡ g) × (h ≡ f)) → Joins t′ f r s
+        go (inl x) =
+            subst (λ (i : ℕ). Joins t′ f i s) (ap (λ (i : ℕ). far t i p) (sym (x .0)) ∙ far-w)
+            (subst (λ (i : ℕ). Joins t′ f (far t f p) i) (ap (λ (i : ℕ). far t i p) (sym (x .1)) ∙ far-h) (f-row n t p a b f g k K))
+        go (inr x) =
+            joins-flip t′ f s r (subst (λ (i : ℕ). Joins t′ f i r) (ap (λ (i : ℕ). far t i p) (sym (x .1)) ∙ far-h)
+            (subst (λ (i : ℕ). Joins t′ f (far t f p) i) (ap (λ (i : ℕ). far t i p) (sym (x .0)) ∙ far-w) (f-row n t p a b f g k K)))
+
+    wh : (j : ℕ) → (j ≡ f → ⊥) → (j ≡ g → ⊥) → (j ≡ w → ⊥) × (j ≡ h → ⊥)
+    unfolding Two
+    wh j jf jg = go two
+      where
+        go : ((w ≡ f) × (h ≡ g)) ⊎ ((w ≡ g) × (h ≡ f)) → (j ≡ w → ⊥) × (j ≡ h → ⊥)
+        go (inl x) = (λ d. jf (d ∙ x .0), λ d. jg (d ∙ x .1))
+        go (inr x) = (λ d. jg (d ∙ x .0), λ d. jf (d ∙ x .1))
+
+    hw : (j : ℕ) → (j ≡ w → ⊥) → (j ≡ h → ⊥) → (j ≡ f → ⊥) × (j ≡ g → ⊥)
+    unfolding Two
+    hw j jw jh = go two
+      where
+        go : ((w ≡ f) × (h ≡ g)) ⊎ ((w ≡ g) × (h ≡ f)) → (j ≡ f → ⊥) × (j ≡ g → ⊥)
+        go (inl x) = (λ d. jw (d ∙ sym (x .0)), λ d. jh (d ∙ sym (x .1)))
+        go (inr x) = (λ d. jh (d ∙ sym (x .1)), λ d. jw (d ∙ sym (x .0)))
+
+    M-u : has (part n t a (far t a p)) u ≡ false
+    M-u = go jb
+      where
+        go : Joins t b u z → has (part n t a (far t a p)) u ≡ false
+        go (inl j) = ap (has (part n t a (far t a p))) (sym (j .0)) ∙ k .b-out
+        go (inr j) = ap (has (part n t a (far t a p))) (sym (j .1)) ∙ sym (hM n t p a b f g k K .parts .closed b (k .b-lt) (k .ba)) ∙ k .b-out
+
+    mk : (N X : ℕ) → Joins t′ N u p → Joins t′ X p z → N < rows n → X < rows n → ((j : ℕ) → (j ≡ N → ⊥) → (j ≡ X → ⊥) → (j ≡ b → ⊥) × (j ≡ g → ⊥))
+        → Graft n t t′ a w h b f N X p (far t a p) r s u z (part n t a (far t a p))
+    mk N X jN jX lN lX out = record {
+      valid = k .valid;
+      valid′ = after-valid n t p a b f g k K;
+      fork = fork-turn po (fork-turn ps q);
+      b-row = jb;
+      b-lt = k .b-lt;
+      ba = k .ba;
+      bw = λ d. k .b-p (ap (λ (i : ℕ). touches t i p) d ∙ w-p);
+      bh = λ d. k .b-p (ap (λ (i : ℕ). touches t i p) d ∙ h-p);
+      F-row = F-joins;
+      N-row = jN;
+      X-row = jX;
+      F-lt = K .f-lt;
+      N-lt = lN;
+      X-lt = lX;
+      keep = λ j jf jn jx. let o = out j jn jx in let v = wh j jf (o .1) in (v .0, v .1, o .0);
+      same = λ j jw jh jb′. let v = hw j jw jh in rest n t p a b f g k K j jb′ (v .0) (v .1);
+      hM = hM n t p a b f g k K;
+      M-u = M-u;
+    }
+
+    graft : (N X : ℕ) × Graft n t t′ a w h b f N X p (far t a p) r s u z (part n t a (far t a p))
+    graft = go jb
+      where
+        go : Joins t b u z → (N X : ℕ) × Graft n t t′ a w h b f N X p (far t a p) r s u z (part n t a (far t a p))
+        go (inl j) = (
+          b,
+          g,
+          mk b g (subst (λ (i : ℕ). Joins t′ b i p) (j .0) (b-row n t p a b f g k K)) (subst (λ (i : ℕ). Joins t′ g p i) (j .1) (g-row n t p a b f g k K))
+              (k .b-lt) (K .g-lt) (λ i x y. (x, y)),
+        )
+        go (inr j) = (
+          g,
+          b,
+          mk g b (joins-flip t′ g p u (subst (λ (i : ℕ). Joins t′ g p i) (j .1) (g-row n t p a b f g k K)))
+              (joins-flip t′ b z p (subst (λ (i : ℕ). Joins t′ b i p) (j .0) (b-row n t p a b f g k K)))
+              (K .g-lt) (k .b-lt) (λ i x y. (y, x)),
+        )
+
+-- the move as a `Graft`
+abbrev pub SomeGraft : ℕ → List ℕ → List ℕ → ℕ → ℕ → ℕ → Type 0
+SomeGraft n t t′ p a b = (w h F N X r s u z : ℕ) × Graft n t t′ a w h b F N X p (far t a p) r s u z (part n t a (far t a p))
+
+-- the splits before and after are a chain of the groups gs; W has the taxa of the part that is moved
+abbrev pub MoveChain : ℕ → List ℕ → List ℕ → ℕ → ℕ → List ℕ → Type 0
+MoveChain n t t′ p a gs = (W y : ℕ) → Taxa n W (part n t a (far t a p)) → y < 2 ^ n → Chain n y W gs (splits n t y) (splits n t′ y)
+
+-- a way from p, come by row a, to row b
+moved-by : {n : ℕ} {t : List ℕ} {p a b f g : ℕ} (k : EndFits n t p a b) (K : Pair n t a p f g) {u z v e q : ℕ} {xs gs : List ℕ} → Walk n t b u z v e q xs gs → Joins t b u z
+    → v ≡ p → e ≡ a → q ≡ far t a p → SomeGraft n t (after n t p a b f g k K) p a b × MoveChain n t (after n t p a b f g k K) p a gs
+moved-by k K (done vz eb qu hD tx) jb vp ea qo = absurd (k .ba (sym eb ∙ ea))
+moved-by {n} {t} {p} {a} {b} {f} k K {u} {z} (next {v} {e} {q} {h} {i} {x} {v′} {g = g₁} {H} {xs} {gs} eb hb fk hH tx way) jb vp ea qo =
+    let fk₁ : Fork n t p x a h v′ (far t a p) i
+    = subst (λ (j : ℕ). Fork n t p x a h v′ j i) qo (subst (λ (j : ℕ). Fork n t p x j h v′ q i) ea (subst (λ (j : ℕ). Fork n t j x e h v′ q i) vp fk)) in
+    let G = graft k K fk₁ jb in (
+      (x, h, f, G .0, G .1, v′, i, u, z, G .2),
+      λ W y tw bound. spr-chain (G .2) (subst (λ (j : ℕ). Walk n t b u z v′ x j xs gs) vp way) (subst (λ (j : ℕ). Hangs n t h j H) vp hH) g₁ tx W tw y bound,
+    )
+
+-- ---- an end that moves
+module _ {n : ℕ} {t : List ℕ} {p a b : ℕ} (k : EndFits n t p a b) where
+  pub start : Ahead n t b p a (part n t a (far t a p))
+  start = record {
+    hang = hangs n t a p (far t a p) (k .valid) (k .a-lt) (touch-joins t a p (k .a-p));
+    e-lt = k .a-lt;
+    e-v = k .a-p;
+    inner = k .inner;
+    out = k .b-out;
+    be = k .ba;
+  }
+
+  pub found : Found n t b p a (walk n t b (nodes n) p a)
+  found = walk-from (k .valid) (k .b-lt) p a start
+
+  moved-along : {u z : ℕ} {xs gs : List ℕ} → Joins t b u z → Walk n t b u z p a (far t a p) xs gs
+      → SomeGraft n t (moveEnd n t p a b) p a b × MoveChain n t (moveEnd n t p a b) p a gs
+  unfolding after
+  moved-along {gs = gs} j way =
+      let w = pair n t a p (k .valid) (k .a-lt) (k .a-p) (k .inner) (touch-node n t a (k .valid) (k .a-lt) p (k .a-p)) in
+      subst (λ (x : List ℕ). SomeGraft n t x p a b × MoveChain n t x p a gs) (sym (moveEnd-eq n t p a b (w .0) (w .1) (w .2 .list)))
+      (moved-by k (w .2) way j refl refl refl)
+
+  pub some-graft : SomeGraft n t (moveEnd n t p a b) p a b
+  some-graft = let v = found in moved-along (v .3) (v .4) .0
+
+  -- for a way that is known by other means
+  pub way-chain : {u z : ℕ} {xs gs : List ℕ} → Joins t b u z → Walk n t b u z p a (far t a p) xs gs → MoveChain n t (moveEnd n t p a b) p a gs
+  way-chain j way = moved-along j way .1
+
+  pub move-chain : MoveChain n t (moveEnd n t p a b) p a (walk n t b (nodes n) p a)
+  move-chain = let v = found in way-chain (v .3) (v .4)
+
+  pub move-dist : (W y : ℕ) → Taxa n W (part n t a (far t a p)) → y < 2 ^ n
+      → dist n t (moveEnd n t p a b) y ≡ pick (some (bitAnd W y)) (2 * (met y (walk n t b (nodes n) p a) - 2)) 0
+  unfolding dist
+  move-dist W y tw bound = chain-dist (move-chain W y tw bound)

@@ -1,0 +1,214 @@
+-- The list that `walk` makes is that of a way as in `Walk`. Assumes nothing.
+use mathlib.Core.Path.{_≡_, refl, sym, ap, ap₂, _∙_, subst}
+use mathlib.Core.Logic.{_⊎_, inl, inr}
+use mathlib.Core.Bool.{Bool, true, false, _&&_, _||_, true≢false}
+use mathlib.Core.List.{List, [], _∷_}
+use Prim.Native.Nat.{ℕ, zero, suc, _+_, _^_, _≤_, _<_}
+use native.Mathlib.Omega.{arith}
+use lib.Dec.{eqb, ltb}
+use borrow.Author.Tests.{eqb-true, eqb-false, eq-eqb, ne-eqb, lt-ltb, ltb-true, ltb-false}
+use Rattle.taxa.specs.Sets.{pick, has, size}
+use Rattle.taxa.proofs.Bools.{either, or-neither, _⊕_, xor-at-true}
+use Rattle.taxa.proofs.Sets.{has-mod, has-pow}
+use Rattle.taxa.proofs.Sizes.{size-le, size-less, size-pos}
+use Rattle.tree.specs.Tree.{lo, hi, rows, nodes, touches, far, others, part, Valid}
+use Rattle.tree.proofs.Rounds.{part-start}
+use Rattle.tree.proofs.Joins.{Joins, joins-touch, joins-flip, touch-joins, touch-node, far-is, joins-nodes, joins-differ}
+use Rattle.tree.proofs.Colourings.{Hangs, hangs, parts-unique, valid-table}
+use Rattle.tree.proofs.RowCounts.{Pair, pair, leaf-only}
+use Rattle.tree.proofs.Forks.{Fork, fork-of, fork-swap, joined, has-joined, leaf-parts}
+use Rattle.moves.specs.Groups.{beyond, leads, walk}
+use Rattle.moves.proofs.RowEnds.{out-lo}
+use Rattle.moves.proofs.Walk.{Taxa, Walk, next, done, fork-turn, behind, behind-v, behind-sub, no-common}
+
+-- the set behind row e, seen from a taxon v, is all but v
+pub leaf-behind : (n : ℕ) (t : List ℕ) (v e P : ℕ) → Valid n t → v < n → e < rows n → touches t e v ≡ true → Hangs n t e v P
+    → (i : ℕ) → i < nodes n → (v ≡ i → ⊥) → has P i ≡ true
+leaf-behind n t v e P vt lv le te hP i li d =
+    let w = parts-unique n t e P (2 ^ v) (vt .connected) (vt .big) (hP .parts) (leaf-parts n t e v vt lv le te) in
+    let all : w .0 ≡ true
+    = xor-at-true (w .0) false (sym (sym (hP .out) ∙ w .1 v (touch-node n t e vt le v te) ∙ ap (λ (x : Bool). w .0 ⊕ x) (has-pow v v ∙ eq-eqb v v refl))) in
+    w .1 i li ∙ ap₂ _⊕_ all (has-pow v i ∙ ne-eqb v i d)
+
+-- ---- one step of `walk`
+module _ (n : ℕ) (t : List ℕ) (b k v e f g : ℕ) (l : Bool) (h : others t e v (rows n) ≡ f ∷ g ∷ []) (hl : leads n t b v f ≡ l) where
+  walk-last : eqb (pick l f g) b ≡ true → walk n t b (suc k) v e ≡ beyond n t v (pick l g f) ∷ beyond n t v b ∷ []
+  unfolding walk
+  walk-last q = rw (h, hl, q)
+
+  walk-next : eqb (pick l f g) b ≡ false → walk n t b (suc k) v e ≡ beyond n t v (pick l g f) ∷ walk n t b k (far t (pick l f g) v) (pick l f g)
+  unfolding walk
+  walk-next q = rw (h, hl, q, h, hl)
+
+pub beyond-taxa : (n : ℕ) (t : List ℕ) (v x : ℕ) → Taxa n (beyond n t v x) (part n t x (far t x v))
+unfolding beyond
+beyond-taxa n t v x i l = has-mod n (part n t x (far t x v)) i ∙ ap (λ (c : Bool). c && has (part n t x (far t x v)) i) (lt-ltb i n l)
+
+-- come to the inner node v by row e, with P behind and b ahead
+pub record Ahead (n : ℕ) (t : List ℕ) (b v e P : ℕ) : Type 0 where
+  pub hang : Hangs n t e v P
+  pub e-lt : e < rows n
+  pub e-v : touches t e v ≡ true
+  pub inner : n ≤ v
+  pub out : has P (lo t b) ≡ false
+  pub be : b ≡ e → ⊥
+
+abbrev pub Found : ℕ → List ℕ → ℕ → ℕ → ℕ → List ℕ → Type 0
+Found n t b v e gs = (u z : ℕ) × (xs : List ℕ) × Joins t b u z × Walk n t b u z v e (far t e v) xs gs
+
+module _ {n : ℕ} {t : List ℕ} {b : ℕ} (vt : Valid n t) (b-lt : b < rows n) where
+  -- at v the way goes on by row `on`, and `off` is the third row
+  module _ {v e P on off : ℕ} (A : Ahead n t b v e P) (q : Fork n t v on e off (far t on v) (far t e v) (far t off v)) (off-b : off ≡ b → ⊥) where
+    hH : Hangs n t off v (part n t off (far t off v))
+    hH = hangs n t off v (far t off v) vt (q .f-lt) (q .f-row)
+
+    -- on is b
+    last-step : eqb on b ≡ true → Found n t b v e (beyond n t v off ∷ beyond n t v b ∷ [])
+    last-step w =
+        let ob = eqb-true on b w in
+        let j : Joins t b v (far t on v) = subst (λ (x : ℕ). Joins t x v (far t on v)) ob (q .e-row) in
+        let jb : Joins t b v (far t b v) = subst (λ (x : ℕ). Joins t x v (far t x v)) ob (q .e-row) in (
+          v,
+          far t on v,
+          on ∷ [],
+          j,
+          next (λ d. A .be (sym d)) off-b q hH (beyond-taxa n t v off) (done refl ob refl (hangs n t b v (far t b v) vt b-lt jb) (beyond-taxa n t v b)),
+        )
+
+    -- on is not b, and b is not beyond off
+    module _ (on-b : eqb on b ≡ false) (H-out : has (part n t off (far t off v)) (lo t b) ≡ false) where
+      P′ : ℕ
+      P′ = joined P (part n t off (far t off v)) v
+
+      v-b : v ≡ lo t b → ⊥
+      v-b = q .only b b-lt (λ d. eqb-false on b on-b (sym d)) (A .be) (λ d. off-b (sym d)) .0
+
+      P′-out : has P′ (lo t b) ≡ false
+      unfolding P′
+      P′-out = has-joined P (part n t off (far t off v)) v (lo t b) ∙ ap₂ _||_ (ap₂ _||_ (A .out) H-out) (ne-eqb v (lo t b) v-b)
+
+      hP′ : Hangs n t on (far t on v) P′
+      unfolding P′
+      hP′ = behind q (A .hang) hH
+
+      on-v′ : touches t on (far t on v) ≡ true
+      on-v′ = joins-touch t on (far t on v) v (joins-flip t on v (far t on v) (q .e-row))
+
+      far-far : far t on (far t on v) ≡ v
+      far-far = far-is t on (far t on v) v (joins-flip t on v (far t on v) (q .e-row)) (λ w. q .pq (sym w))
+
+      v′-inner : n ≤ far t on v
+      v′-inner = go (either (ltb (far t on v) n))
+        where
+          go : (ltb (far t on v) n ≡ true) ⊎ (ltb (far t on v) n ≡ false) → n ≤ far t on v
+          go (inr w) = ltb-false (far t on v) n w
+          go (inl w) = absurd (at (either (eqb (far t on v) (lo t b))))
+            where
+              l : far t on v < n
+              l = ltb-true (far t on v) n w
+
+              at : (eqb (far t on v) (lo t b) ≡ true) ⊎ (eqb (far t on v) (lo t b) ≡ false) → ⊥
+              at (inl x) =
+                  eqb-false on b on-b (sym (leaf-only n t (far t on v) on vt l (q .e-lt) on-v′ b b-lt
+                  (joins-touch t b (far t on v) (hi t b) (inl (sym (eqb-true (far t on v) (lo t b) x), refl)))))
+              at (inr x) =
+                  true≢false (sym (leaf-behind n t (far t on v) on P′ vt l (q .e-lt) on-v′ hP′ (lo t b) (valid-table n t vt .ends b b-lt .0) (eqb-false (far t on v) (lo t b) x)) ∙ P′-out)
+
+      ahead : Ahead n t b (far t on v) on P′
+      ahead = record { hang = hP′; e-lt = q .e-lt; e-v = on-v′; inner = v′-inner; out = P′-out; be = λ d. eqb-false on b on-b (sym d) }
+
+      grows : size (nodes n) P < size (nodes n) P′
+      unfolding P′
+      grows = size-less (nodes n) P P′ v (λ j l. behind-sub q (A .hang) hH j) (q .p-lt) (A .hang .out) (behind-v q (A .hang) hH)
+
+      next-step : (gs : List ℕ) → Found n t b (far t on v) on gs → Found n t b v e (beyond n t v off ∷ gs)
+      next-step gs w = (
+        w .0,
+        w .1,
+        on ∷ w .2,
+        w .3,
+        next (λ d. A .be (sym d)) off-b q hH (beyond-taxa n t v off) (subst (λ (x : ℕ). Walk n t b (w .0) (w .1) (far t on v) on x (w .2) gs) far-far (w .4)),
+      )
+
+  -- a walk of k nodes is long enough where more than `nodes n` less k nodes lie behind
+  pub walk-is : (k v e P : ℕ) → Ahead n t b v e P → nodes n < k + size (nodes n) P → Found n t b v e (walk n t b k v e)
+  unfolding leads
+  walk-is zero v e P A fuel = absurd (omega (arith, size-le (nodes n) P))
+  walk-is (suc k) v e P A fuel = go (λ v′ e′ P′ A′ fuel′. walk-is k v′ e′ P′ A′ fuel′) (leads n t b v f) refl
+    where
+      pr : (f g : ℕ) × Pair n t e v f g
+      pr = pair n t e v vt (A .e-lt) (A .e-v) (A .inner) (touch-node n t e vt (A .e-lt) v (A .e-v))
+
+      f : ℕ
+      f = pr .0
+
+      g : ℕ
+      g = pr .1
+
+      K : Pair n t e v f g
+      K = pr .2
+
+      fk : Fork n t v e f g (far t e v) (far t f v) (far t g v)
+      fk = fork-of n t e v f g vt (A .e-lt) (A .e-v) (A .inner) K
+
+      on-f : Fork n t v f e g (far t f v) (far t e v) (far t g v)
+      on-f = fork-turn (joins-differ n t f vt (K .f-lt) v (far t f v) (fk .x-row)) (fork-swap n t v e f g (far t e v) (far t f v) (far t g v) fk)
+
+      on-g : Fork n t v g e f (far t g v) (far t e v) (far t f v)
+      on-g = fork-turn (joins-differ n t g vt (K .g-lt) v (far t g v) (fk .f-row)) fk
+
+      B : ℕ
+      B = part n t f (far t f v)
+
+      hB : Hangs n t f v B
+      hB = hangs n t f v (far t f v) vt (K .f-lt) (fk .x-row)
+
+      G : ℕ
+      G = part n t g (far t g v)
+
+      hG : Hangs n t g v G
+      hG = hangs n t g v (far t g v) vt (K .g-lt) (fk .f-row)
+
+      -- b's smaller end beyond f: b is not g, nor beyond g
+      g-not-b : has B (lo t b) ≡ true → g ≡ b → ⊥
+      g-not-b w d =
+          true≢false (sym w ∙ ap (λ (x : ℕ). has B (lo t x)) (sym d)
+          ∙ out-lo t g v (far t g v) B (fk .f-row) (hB .out) (hB .parts .closed g (K .g-lt) (λ x. fk .xf (sym x))))
+
+      b-not-g : has B (lo t b) ≡ true → has G (lo t b) ≡ false
+      b-not-g w = no-common fk hB hG vt (lo t b) (valid-table n t vt .ends b b-lt .0) w
+
+      Deep : Type 0
+      Deep = (v′ e′ P′ : ℕ) → Ahead n t b v′ e′ P′ → nodes n < k + size (nodes n) P′ → Found n t b v′ e′ (walk n t b k v′ e′)
+
+      by-f : Deep → leads n t b v f ≡ true → (eqb f b ≡ true) ⊎ (eqb f b ≡ false) → Found n t b v e (walk n t b (suc k) v e)
+      by-f ih hl (inl w) =
+          subst (λ (x : List ℕ). Found n t b v e x) (sym (walk-last n t b k v e f g true (K .list) hl w))
+          (last-step A on-f (λ d. fk .xf (eqb-true f b w ∙ sym d)) w)
+      by-f ih hl (inr w) =
+          let lead : has B (lo t b) ≡ true = sym (ap (λ (x : Bool). x || has B (lo t b)) w) ∙ hl in
+          let gb = g-not-b lead in
+          let out = b-not-g lead in
+          subst (λ (x : List ℕ). Found n t b v e x) (sym (walk-next n t b k v e f g true (K .list) hl w))
+          (next-step A on-f gb w out (walk n t b k (far t f v) f)
+          (ih (far t f v) f (P′ A on-f gb w out) (ahead A on-f gb w out) (omega (arith, grows A on-f gb w out))))
+
+      by-g : Deep → leads n t b v f ≡ false → (eqb g b ≡ true) ⊎ (eqb g b ≡ false) → Found n t b v e (walk n t b (suc k) v e)
+      by-g ih hl (inl w) =
+          subst (λ (x : List ℕ). Found n t b v e x) (sym (walk-last n t b k v e f g false (K .list) hl w))
+          (last-step A on-g (λ d. fk .xf (d ∙ sym (eqb-true g b w))) w)
+      by-g ih hl (inr w) =
+          let no = or-neither (eqb f b) (has B (lo t b)) hl in
+          let fb : f ≡ b → ⊥ = eqb-false f b (no .0) in
+          subst (λ (x : List ℕ). Found n t b v e x) (sym (walk-next n t b k v e f g false (K .list) hl w))
+          (next-step A on-g fb w (no .1) (walk n t b k (far t g v) g)
+          (ih (far t g v) g (P′ A on-g fb w (no .1)) (ahead A on-g fb w (no .1)) (omega (arith, grows A on-g fb w (no .1)))))
+
+      go : Deep → (l : Bool) → leads n t b v f ≡ l → Found n t b v e (walk n t b (suc k) v e)
+      go ih true hl = by-f ih hl (either (eqb f b))
+      go ih false hl = by-g ih hl (either (eqb g b))
+
+  -- from the whole of one end's part: as many nodes as there are suffice
+  pub walk-from : (v e : ℕ) → Ahead n t b v e (part n t e (far t e v)) → Found n t b v e (walk n t b (nodes n) v e)
+  walk-from v e A = walk-is (nodes n) v e (part n t e (far t e v)) A
+      (omega (arith, size-pos (nodes n) (part n t e (far t e v)) (far t e v) (joins-nodes n t e vt (A .e-lt) v (far t e v) (touch-joins t e v (A .e-v)) .1) (part-start n t e (far t e v))))

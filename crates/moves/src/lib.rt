@@ -1,0 +1,1 @@
+// The three moves, their groups and their distances: definitions and laws, and no code.
