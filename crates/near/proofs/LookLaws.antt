@@ -1,11 +1,11 @@
 -- What the check of a tree says at each test of the code. Assumes nothing.
-use mathlib.Core.Path.{_≡_, refl, sym, ap, _∙_}
-use mathlib.Core.Bool.{Bool, true, false}
-use mathlib.Core.List.{List, [], _∷_, _++_}
+use mathlib.Core.Path.{_≡_, sym, ap, _∙_}
+use mathlib.Core.Bool.{true, false}
+use mathlib.Core.List.{List, [], _++_}
 use Prim.Native.Nat.{ℕ}
 use native.Mathlib.Omega.{arith}
 use Rattle.tree.specs.Tree.{nodes, fromZero, every}
-use Rattle.tree.specs.Refusals.{_else_, Said, gives, refuses, judged, countChecks, rowChecks, reachChecks, treeChecks, rowSaid, treeSaid, Accepted}
+use Rattle.tree.specs.Refusals.{gives, refuses, judged, countChecks, rowChecks, reachChecks, treeChecks, rowSaid, treeSaid, Accepted}
 use Rattle.tree.proofs.RefusalLaws.{judged-pass, judged-next, judged-fail, gives-pass, refuses-more, pass-accepted}
 use Rattle.table.specs.Says.{numberOf, checkSays}
 use Rattle.table.specs.Rowed.{Rowed}

@@ -1,23 +1,23 @@
 -- Laws for the array of the rows at each node. Assumes nothing.
 use mathlib.Core.Path.{_≡_, refl, sym, ap, ap₂, _∙_, subst}
 use mathlib.Core.Logic.{_⊎_, inl, inr}
-use mathlib.Core.Bool.{Bool, true, false, not, _&&_, _||_, true≢false, false≢true}
+use mathlib.Core.Bool.{Bool, true, false, _||_}
 use mathlib.Core.List.{List, [], _∷_, _++_}
-use Prim.Native.Nat.{ℕ, zero, suc, _+_, _*_, _-_, _≤_, _<_}
+use Prim.Native.Nat.{ℕ, zero, suc, _+_, _*_, _≤_, _<_}
 use native.Mathlib.Numerals.{add-one}
 use native.Mathlib.Omega.{arith}
 use lib.Dec.{eqb, ltb}
-use lib.ListN.{length, getD, set, length-set, replicate, length-replicate, getD-replicate}
+use lib.ListN.{length, getD, set, length-set, replicate, getD-replicate}
 use lib.Seq.{getD-set-same, getD-set-other}
 use borrow.Author.Tests.{eqb-true, eqb-false, eq-eqb, ne-eqb, ltb-true, ltb-false}
 use Rattle.taxa.specs.Most.{most}
 use Rattle.taxa.specs.Sets.{pick}
 use Rattle.taxa.proofs.Bools.{either}
 use Rattle.tree.specs.Tree.{lo, hi, rows, nodes, touches, rowsAt, others, count, Valid}
-use Rattle.tree.proofs.RowCounts.{count-mono, count-yes, Pair, pair}
+use Rattle.tree.proofs.RowCounts.{count-mono, count-yes, pair}
 use Rattle.tree.proofs.RowsAt.{rows-at-length, without, others-without}
 use Rattle.tree.proofs.Joins.{joins-touch, touch-node}
-use Rattle.table.specs.Rowed.{Ordered, Rowed}
+use Rattle.table.specs.Rowed.{Rowed}
 use Rattle.near.specs.Near.{free, hooked, Near, otherFirst, otherSecond}
 
 -- ---- storing a row

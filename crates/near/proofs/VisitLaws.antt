@@ -1,9 +1,9 @@
 -- Laws for marking what can be reached. Assumes nothing.
 use mathlib.Core.Path.{_≡_, refl, sym, ap, _∙_, subst}
 use mathlib.Core.Logic.{_⊎_, inl, inr}
-use mathlib.Core.Bool.{Bool, true, false, not, _||_, true≢false, false≢true, or-false}
+use mathlib.Core.Bool.{true, false, not, _||_, true≢false, or-false}
 use mathlib.Core.List.{List, [], _∷_}
-use Prim.Native.Nat.{ℕ, zero, suc, _+_, _*_, _-_, _≤_, _<_}
+use Prim.Native.Nat.{ℕ, _+_, _*_, _≤_, _<_}
 use native.Mathlib.Omega.{arith}
 use lib.Dec.{eqb, ltb}
 use lib.ListN.{length, getD, set, length-set, replicate, getD-replicate, length-replicate, List·getD-eq-default}
@@ -11,13 +11,13 @@ use lib.Seq.{getD-set-same, getD-set-other}
 use borrow.Author.Tests.{eqb-true, eqb-false, eq-eqb, ne-eqb, ltb-true, ltb-false, not-true}
 use Rattle.taxa.specs.Most.{most}
 use Rattle.taxa.proofs.Bools.{either, or-cases, or-left, or-right, bool-eq}
-use Rattle.tree.specs.Tree.{lo, hi, rows, nodes, touches, far, rowsAt, count, every, part, fromZero}
+use Rattle.tree.specs.Tree.{lo, hi, rows, nodes, touches, far, rowsAt, count, every, fromZero}
 use Rattle.tree.specs.Lists.{mem}
 use Rattle.tree.proofs.Rounds.{Ends, Flat, part-one, part-start, part-flat}
 use Rattle.tree.proofs.Joins.{Joins, touch-joins, joins-touch, joins-lt, joins-ne, flat-join, far-is}
 use Rattle.tree.proofs.RowCounts.{every-same, count-sub, count-less}
 use Rattle.tree.proofs.RowsAt.{rows-at-in, rows-at-out}
-use Rattle.table.specs.Rowed.{Ordered, Rowed}
+use Rattle.table.specs.Rowed.{Rowed}
 use Rattle.near.specs.Near.{Near}
 use Rattle.near.specs.Marks.{mark, Spread, Visited}
 

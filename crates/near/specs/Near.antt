@@ -1,5 +1,5 @@
 -- An array of the rows at each node, three places a node.
-use Prim.Native.Nat.{ℕ, zero, suc, _+_, _*_, _≤_, _<_}
+use Prim.Native.Nat.{ℕ, _+_, _*_, _≤_, _<_}
 use mathlib.Core.Path.{_≡_}
 use mathlib.Core.List.{List, [], _∷_}
 use lib.Dec.{eqb}
@@ -7,7 +7,7 @@ use lib.ListN.{length, getD, set}
 use Rattle.taxa.specs.Most.{most}
 use Rattle.taxa.specs.Sets.{pick}
 use Rattle.tree.specs.Tree.{rows, nodes, rowsAt}
-use Rattle.tree.specs.Refusals.{Said, gives, treeSaid}
+use Rattle.tree.specs.Refusals.{gives, treeSaid}
 use Rattle.table.specs.Says.{checkSays}
 use Rattle.table.specs.declared.Checked.{Checked}
 

@@ -1,27 +1,26 @@
 -- Laws for the traversal from taxon 0. Assumes nothing.
 use mathlib.Core.Path.{_≡_, refl, sym, ap, ap₂, _∙_, subst}
 use mathlib.Core.Logic.{_⊎_, inl, inr}
-use mathlib.Core.Bool.{Bool, true, false, not, _&&_, _||_, true≢false, false≢true}
+use mathlib.Core.Bool.{Bool, true, false, not, _&&_, _||_, true≢false}
 use mathlib.Core.List.{List, [], _∷_}
-use Prim.Native.Nat.{ℕ, zero, suc, _+_, _*_, _-_, _^_, _%_, _≤_, _<_}
+use Prim.Native.Nat.{ℕ, _+_, _*_, _^_, _%_, _≤_, _<_}
 use native.Mathlib.Omega.{arith}
 use lib.Dec.{eqb, ltb}
 use lib.ListN.{length, getD, set, length-set}
 use lib.Seq.{getD-set-same, getD-set-other}
 use lib.Bits.{bitOr}
-use borrow.Author.Tests.{eqb-true, eqb-false, eq-eqb, ne-eqb, ltb-true, ltb-false}
+use borrow.Author.Tests.{eqb-true, eqb-false, ne-eqb, ltb-true}
 use Rattle.taxa.specs.Most.{most}
 use Rattle.taxa.specs.Sets.{has, less, full, size}
 use Rattle.taxa.proofs.Bools.{either, or-cases}
 use Rattle.taxa.proofs.Sets.{has-less, has-mod, has-ones, ext}
-use Rattle.tree.specs.Tree.{lo, hi, rows, nodes, touches, far, others, part, Valid}
+use Rattle.tree.specs.Tree.{lo, hi, rows, nodes, far, part, Valid}
 use Rattle.tree.specs.Splits.{side}
 use Rattle.tree.specs.Refusals.{Accepted}
-use Rattle.tree.proofs.Rounds.{part-start}
-use Rattle.tree.proofs.Joins.{Joins, touch-joins, joins-touch, joins-flip, touch-node, not-touch}
-use Rattle.tree.proofs.Colourings.{two-sides, ends-parted}
+use Rattle.tree.proofs.Joins.{touch-joins, joins-touch, joins-flip, touch-node}
+use Rattle.tree.proofs.Colourings.{two-sides}
 use Rattle.tree.proofs.RowCounts.{Pair, pair-of, leaf-only}
-use Rattle.tree.proofs.Forks.{Fork, fork, node-side, less-f, less-g, at-f, at-g, taxa-both, taxa-one, leaf-side}
+use Rattle.tree.proofs.Forks.{fork, node-side, less-f, less-g, at-f, at-g, taxa-both, leaf-side}
 use Rattle.near.specs.Near.{Near, otherFirst, otherSecond}
 use Rattle.near.proofs.NearLaws.{near-others}
 use Rattle.near.proofs.VisitLaws.{Across, place-0}

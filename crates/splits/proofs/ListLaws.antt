@@ -1,9 +1,8 @@
 -- Laws for listing the splits from the sides. Assumes nothing.
 use mathlib.Core.Path.{_≡_, refl, sym, ap, ap₂, _∙_, subst}
-use mathlib.Core.Logic.{_⊎_, inl, inr}
-use mathlib.Core.Bool.{Bool, true, false, not, _&&_, false≢true, true≢false}
+use mathlib.Core.Bool.{Bool, true, false, not, _&&_}
 use mathlib.Core.List.{List, [], _∷_, _++_}
-use Prim.Native.Nat.{ℕ, zero, suc, _+_, _*_, _-_, _^_, _≤_, _<_, zero-le}
+use Prim.Native.Nat.{ℕ, zero, suc, _+_, _-_, _^_, _≤_, _<_, zero-le}
 use native.Mathlib.Nat.{le-refl, lt-of-lt-of-le}
 use native.Mathlib.Decide.{le-ind}
 use native.Mathlib.Numerals.{add-one}
@@ -17,7 +16,7 @@ use borrow.Author.Tests.{eq-eqb, ne-eqb}
 use Rattle.taxa.specs.Most.{most}
 use Rattle.taxa.specs.Sets.{pick, has, less, some, lowest, size}
 use Rattle.taxa.proofs.Bools.{bool-eq}
-use Rattle.taxa.proofs.Sets.{has-less, has-and, has-none, ext, some-zero, lowest-wide, lowest-lt}
+use Rattle.taxa.proofs.Sets.{has-less, has-none, ext, some-zero, lowest-wide, lowest-lt}
 use Rattle.taxa.proofs.Words.{ones-size}
 use Rattle.tree.specs.Tree.{rows, Valid}
 use Rattle.tree.specs.Lists.{insert, lacks, firstLack}

@@ -1,16 +1,16 @@
 -- What the two calls say at each test of the code, and that one answer and one state of the lent list meet each promise. Assumes nothing.
-use mathlib.Core.Path.{_≡_, refl, sym, ap, ap₂, _∙_, subst}
-use mathlib.Core.Bool.{Bool, true, false}
-use mathlib.Core.List.{List, [], _∷_, _++_}
+use mathlib.Core.Path.{_≡_, sym, ap, ap₂, _∙_}
+use mathlib.Core.Bool.{true, false}
+use mathlib.Core.List.{List, [], _++_}
 use Prim.Native.Nat.{ℕ, _^_, _≤_, _<_}
 use native.Mathlib.Omega.{arith}
 use lib.Dec.{ltb, leb}
 use lib.ListN.{length, drop}
-use borrow.Author.Tests.{lt-ltb, le-leb, lt-leb}
+use borrow.Author.Tests.{le-leb, lt-leb}
 use Rattle.tree.specs.Splits.{splits, dist, missing}
 use Rattle.tree.specs.Refusals.{Said, gives, refuses, judged, countChecks, tableChecks, treeChecks, partitionChecks, roomChecks, treeSaid, Accepted}
-use Rattle.tree.proofs.RefusalLaws.{Pass, judged-pass, judged-next, judged-fail, judged-all, gives-pass, refuses-more, pass-accepted, accepted-pass}
-use Rattle.table.specs.Says.{numberOf, checkSays}
+use Rattle.tree.proofs.RefusalLaws.{Pass, judged-pass, judged-next, judged-fail, refuses-more, accepted-pass}
+use Rattle.table.specs.Says.{numberOf}
 use Rattle.table.specs.declared.Refusal.{Refusal}
 use Rattle.table.proofs.Numbers.{number-one}
 use Rattle.splits.specs.Listed.{Listed}

@@ -1,7 +1,7 @@
 -- The list of splits from the sides of the rows, and a list written at the start of a lent one.
 use Prim.Native.Nat.{ℕ, zero, suc}
 use mathlib.Core.Path.{_≡_}
-use mathlib.Core.List.{List, [], _∷_, _++_}
+use mathlib.Core.List.{List, [], _++_}
 use lib.ListN.{length, getD, drop}
 use Rattle.taxa.specs.Sets.{pick, some}
 use Rattle.tree.specs.Lists.{insert}

@@ -1,10 +1,10 @@
 -- What the two calls promise, for every input: the answer, and the state of the lent list.
 use Prim.Native.Nat.{ℕ}
 use mathlib.Core.Path.{_≡_}
-use mathlib.Core.List.{List, [], _∷_, _++_}
+use mathlib.Core.List.{List, _++_}
 use lib.ListN.{length, drop}
 use Rattle.tree.specs.Splits.{splits, dist, missing}
-use Rattle.tree.specs.Refusals.{Said, gives, refuses, judged, countChecks, tableChecks, treeChecks, partitionChecks, roomChecks}
+use Rattle.tree.specs.Refusals.{Said, gives, refuses, judged, tableChecks, treeChecks, partitionChecks, roomChecks}
 use Rattle.table.specs.Says.{numberOf}
 use Rattle.splits.specs.declared.Induced.{Induced}
 use Rattle.splits.specs.declared.Induced.the-variants as induced

@@ -1,20 +1,20 @@
 -- Laws for the counts of rows at each node. Assumes nothing.
-use mathlib.Core.Path.{_≡_, refl, sym, ap, ap₂, _∙_}
+use mathlib.Core.Path.{_≡_, sym, ap, _∙_}
 use mathlib.Core.Logic.{_⊎_, inl, inr}
-use mathlib.Core.Bool.{Bool, true, false, _&&_}
+use mathlib.Core.Bool.{Bool, true, false}
 use mathlib.Core.List.{List}
-use Prim.Native.Nat.{ℕ, zero, suc, _+_, _*_, _-_, _≤_, _<_}
+use Prim.Native.Nat.{ℕ, _+_, _*_, _-_, _≤_, _<_}
 use native.Mathlib.Numerals.{add-one}
 use native.Mathlib.Omega.{arith}
 use lib.Dec.{eqb, ltb, leb}
 use lib.ListN.{length, getD, set, length-set, replicate, length-replicate, getD-replicate}
 use lib.Seq.{getD-set-same, getD-set-other}
-use borrow.Author.Tests.{eqb-true, eqb-false, eq-eqb, ne-eqb, ltb-true, leb-true, le-ltb, lt-ltb}
+use borrow.Author.Tests.{eqb-true, eqb-false, ltb-true, leb-true, le-ltb, lt-ltb}
 use Rattle.taxa.specs.Most.{most}
 use Rattle.taxa.specs.Sets.{pick, tally}
 use Rattle.taxa.proofs.Bools.{either, and-left, and-right}
 use Rattle.tree.specs.Tree.{lo, hi, rows, nodes, touches, inOrder, rightDegree, degree, wanted, every, count}
-use Rattle.tree.proofs.RowCounts.{every-all, every-same, touch-tally, count-le, count-mono}
+use Rattle.tree.proofs.RowCounts.{every-all, every-same, touch-tally, count-le}
 use Rattle.table.specs.Rowed.{Ordered, Rowed, Counted}
 
 -- one more at place a

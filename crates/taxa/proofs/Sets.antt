@@ -1,19 +1,19 @@
 -- Membership: of the bit operations, of a power of two, of all bits below n; sets are equal by their members; the lowest member.
 -- Assumes nothing.
 use mathlib.Core.Path.{_≡_, refl, sym, ap, ap₂, _∙_, subst}
-use mathlib.Core.Logic.{_⊎_, inl, inr, ⊎-elim, _≢_}
+use mathlib.Core.Logic.{_⊎_, inl, inr}
 use mathlib.Core.Bool.{Bool, true, false, not, _&&_, _||_, true≢false, false≢true}
-use Prim.Native.Nat.{ℕ, zero, suc, _+_, _*_, _-_, _/_, _%_, _^_, _≤_, _<_, min, max}
-use native.Mathlib.Nat.{mod-lt, mod-eq-of-lt, div-one, zero-div, div-add-mod', zero-lt-suc, le-refl, pow-suc, pow-zero, mul-div-cancel, mul-mod-left, div-div-eq-div-mul, pow-succ'}
+use Prim.Native.Nat.{ℕ, zero, suc, _-_, _/_, _%_, _^_, _≤_, _<_}
+use native.Mathlib.Nat.{mod-lt, mod-eq-of-lt, div-one, zero-div, div-add-mod', zero-lt-suc, le-refl, pow-suc, mul-div-cancel, mul-mod-left, div-div-eq-div-mul, pow-succ'}
 use native.Mathlib.Omega.{arith}
 use lib.Arith.{lt-one, bin-ind, digits-div, digits-mod, mod-mul}
-use lib.Bits.{bitAnd, bitOr, bitXor, differ, and-shr, or-shr, xor-shr, and-mod, or-mod, xor-mod}
+use lib.Bits.{bitAnd, bitOr, bitXor, and-shr, or-shr, xor-shr, and-mod, or-mod, xor-mod}
 use lib.Count.{trailingZeros, under}
-use lib.Dec.{T, eqb, ltb, eqb→eq, eqb-refl, leb·zero, leb·suc-zero, leb·suc-suc, eqb·zero-suc, eqb·suc-zero, eqb·suc-suc}
-use lib.Pow.{shr-shr, pow-pos, ones-split, suc-ones}
+use lib.Dec.{eqb, ltb, leb·zero, leb·suc-zero, leb·suc-suc, eqb·zero-suc, eqb·suc-zero, eqb·suc-suc}
+use lib.Pow.{pow-pos, ones-split}
 use borrow.Author.Tests.{ltb-true, ltb-false, eqb-true, ne-eqb, not-false}
-use Rattle.taxa.proofs.Bools.{either, and-left, and-right, and-imp, _⊕_}
-use Rattle.taxa.specs.Sets.{pick, bit, has, add, less, some, lowest, Sub}
+use Rattle.taxa.proofs.Bools.{either, and-left, and-imp, _⊕_}
+use Rattle.taxa.specs.Sets.{bit, has, add, less, some, lowest, Sub}
 
 -- a digit is 0 or 1
 pub low2 : (x : ℕ) → (x % 2 ≡ 0) ⊎ (x % 2 ≡ 1)
@@ -193,10 +193,6 @@ some-zero = refl
 pub sub-and : (a b : ℕ) → Sub a b → bitAnd a b ≡ a
 unfolding Sub
 sub-and a b h = ext (bitAnd a b) a (λ i. has-and a b i ∙ and-imp (has a i) (has b i) (h i))
-
-pub and-sub : (a b : ℕ) → bitAnd a b ≡ a → Sub a b
-unfolding Sub
-and-sub a b e i p = and-right (has a i) (has b i) (sym (has-and a b i) ∙ ap (λ (x : ℕ). has x i) e ∙ p)
 
 pub sub-lt : (n a b : ℕ) → Sub a b → b < 2 ^ n → a < 2 ^ n
 sub-lt n a b h l = native.Mathlib.Nat.lt-of-le-of-lt (subst (λ (x : ℕ). x ≤ b) (sub-and a b h) (lib.Bits.and-le-r a b)) l

@@ -1,13 +1,13 @@
 -- How many members a set has below k. Assumes nothing.
-use mathlib.Core.Path.{_≡_, refl, sym, ap, ap₂, _∙_, subst}
+use mathlib.Core.Path.{_≡_, refl, sym, ap, ap₂, _∙_}
 use mathlib.Core.Logic.{_⊎_, inl, inr}
-use mathlib.Core.Bool.{Bool, true, false, not, _&&_, _||_, true≢false, false≢true, or-true, or-false}
-use Prim.Native.Nat.{ℕ, zero, suc, _+_, _*_, _-_, _^_, _≤_, _<_, zero-le}
+use mathlib.Core.Bool.{Bool, true, false, _||_, false≢true, or-true, or-false}
+use Prim.Native.Nat.{ℕ, zero, suc, _+_, _^_, _≤_, _<_, zero-le}
 use native.Mathlib.Nat.{le-refl}
 use native.Mathlib.Omega.{arith}
-use lib.Dec.{eqb, ltb}
+use lib.Dec.{eqb}
 use borrow.Author.Tests.{eqb-true, eqb-false, ne-eqb, eq-eqb}
-use Rattle.taxa.specs.Sets.{pick, has, add, tally, size, Sub}
+use Rattle.taxa.specs.Sets.{has, add, tally, size, Sub}
 use Rattle.taxa.proofs.Bools.{either, bool-eq}
 use Rattle.taxa.proofs.Sets.{has-add, has-none, ext}
 

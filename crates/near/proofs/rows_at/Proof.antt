@@ -1,3 +1,4 @@
+-- `near::rows_at` meets its contract. Assumes nothing.
 use mathlib.Core.Path.{_≡_, refl, sym, ap, _∙_, subst}
 use mathlib.Core.List.{List}
 use Prim.Native.Nat.{ℕ, _≤_, _-_, _*_, _+_}
@@ -10,11 +11,6 @@ use Rattle.near.proofs.NearLaws.{Upto, upto-none, upto-more, near-of, l
 use borrow.Author.Needs.{needs}
 use Rattle.near.proofs.rows_at.Statement.{statement}
 use Rattle.near.proofs.rows_at.Tie as tie
-use Rattle.near.proofs.rows_at.Reads as reads
-use Rattle.near.proofs.rows_at.Lts as lts
-use Rattle.near.proofs.hook.Reads as hook-reads
-use Rattle.table.proofs.hi.Reads as hi-reads
-use Rattle.table.proofs.lo.Reads as lo-reads
 
 abbrev Inv-loop : tie.InvT-loop
 Inv-loop n t a₀ m i₀ a i =

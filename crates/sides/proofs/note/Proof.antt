@@ -1,3 +1,4 @@
+-- `sides::note` meets its contract. Assumes nothing.
 use mathlib.Core.Path.{sym, ap, ap₂, _∙_}
 use native.Mathlib.Omega.{arith}
 use lib.ListN.{set}
@@ -6,11 +7,6 @@ use Rattle.sides.proofs.FillLaws.{row-room, side-lo, side-hi}
 use borrow.Author.Needs.{needs}
 use Rattle.sides.proofs.note.Statement.{statement}
 use Rattle.sides.proofs.note.Tie as tie
-use Rattle.sides.proofs.note.Reads as reads
-use Rattle.sides.proofs.note.Lts as lts
-use Rattle.table.proofs.lo.Reads as lo-reads
-use Rattle.taxa.proofs.full.Reads as full-reads
-use Rattle.taxa.proofs.less.Reads as less-reads
 
 lo-requires : tie.Need-lo-requires
 lo-requires c κs =

@@ -1,6 +1,6 @@
+-- `sides::sides` meets its contract. Assumes nothing.
 use mathlib.Core.Path.{refl}
 use Prim.Native.Nat.{ℕ}
-use native.Mathlib.Omega.{arith}
 use lib.ListN.{length-replicate}
 use Rattle.taxa.specs.Most.{most}
 use Rattle.tree.specs.Tree.{rows}
@@ -8,11 +8,6 @@ use Rattle.sides.proofs.FillLaws.{zero-room, start, all-sides}
 use borrow.Author.Needs.{needs}
 use Rattle.sides.proofs.sides.Statement.{statement}
 use Rattle.sides.proofs.sides.Tie as tie
-use Rattle.sides.proofs.sides.Reads as reads
-use Rattle.sides.proofs.sides.Lts as lts
-use Rattle.near.proofs.row_at.Reads as row-at-reads
-use Rattle.sides.proofs.fill.Reads as fill-reads
-use Rattle.table.proofs.far.Reads as far-reads
 
 row-at-requires : tie.Need-row-at-requires
 row-at-requires c κs =

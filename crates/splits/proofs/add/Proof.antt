@@ -1,15 +1,12 @@
-use mathlib.Core.Path.{sym, ap, subst}
+-- `splits::add` meets its contract. Assumes nothing.
+use mathlib.Core.Path.{subst}
 use Prim.Native.Nat.{ℕ, _≤_}
-use native.Mathlib.Omega.{arith}
 use mathlib.Core.List.{List}
 use lib.ListN.{length, take}
 use Rattle.splits.proofs.ListLaws.{added-insert, listed-kept, listed-put}
 use borrow.Author.Needs.{needs}
 use Rattle.splits.proofs.add.Statement.{statement}
 use Rattle.splits.proofs.add.Tie as tie
-use Rattle.splits.proofs.add.Reads as reads
-use Rattle.splits.proofs.add.Lts as lts
-use Rattle.lists.proofs.insert.Reads as insert-reads
 
 returns : tie.Need-returns
 returns c =

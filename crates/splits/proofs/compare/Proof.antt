@@ -1,12 +1,9 @@
+-- `splits::compare` meets its contract. Assumes nothing.
 use Rattle.near.proofs.LookLaws.{found-tree-is, found-refused}
 use Rattle.splits.proofs.SaidLaws.{compares-first}
 use borrow.Author.Needs.{needs}
 use Rattle.splits.proofs.compare.Statement.{statement}
 use Rattle.splits.proofs.compare.Tie as tie
-use Rattle.splits.proofs.compare.Reads as reads
-use Rattle.splits.proofs.compare.Lts as lts
-use Rattle.near.proofs.look.Reads as look-reads
-use Rattle.splits.proofs.compare_second.Reads as compare-second-reads
 
 look-requires : tie.Need-look-requires
 look-requires c κs = search needs

@@ -1,16 +1,12 @@
-use Rattle.tree.specs.Refusals.{Said}
-use mathlib.Core.Path.{ap, ap₂}
+-- `splits::compare_lists` meets its contract. Assumes nothing.
+use Rattle.tree.specs.Refusals.{Said, gives}
+use mathlib.Core.Path.{ap₂}
 use Prim.Native.Nat.{ℕ, _+_}
 use native.Mathlib.Omega.{arith}
-use Rattle.tree.specs.Refusals.{gives}
 use Rattle.tree.proofs.Lists.{lacks-most}
 use borrow.Author.Needs.{needs}
 use Rattle.splits.proofs.compare_lists.Statement.{statement}
 use Rattle.splits.proofs.compare_lists.Tie as tie
-use Rattle.splits.proofs.compare_lists.Reads as reads
-use Rattle.splits.proofs.compare_lists.Lts as lts
-use Rattle.lists.proofs.count_lacking.Reads as count-lacking-reads
-use Rattle.lists.proofs.first_lacking.Reads as first-lacking-reads
 
 count-lacking-requires : tie.Need-count-lacking-requires
 count-lacking-requires c κs = search needs

@@ -1,3 +1,4 @@
+-- `splits::compare_second` meets its contract. Assumes nothing.
 use mathlib.Core.Path.{sym, _∙_}
 use native.Mathlib.Omega.{arith}
 use borrow.Author.Tests.{ltb-true}
@@ -6,11 +7,6 @@ use Rattle.splits.proofs.SaidLaws.{compares-second, compares-6, compare
 use borrow.Author.Needs.{needs}
 use Rattle.splits.proofs.compare_second.Statement.{statement}
 use Rattle.splits.proofs.compare_second.Tie as tie
-use Rattle.splits.proofs.compare_second.Reads as reads
-use Rattle.splits.proofs.compare_second.Lts as lts
-use Rattle.near.proofs.look.Reads as look-reads
-use Rattle.splits.proofs.compare_trees.Reads as compare-trees-reads
-use Rattle.taxa.proofs.within.Reads as within-reads
 
 look-requires : tie.Need-look-requires
 look-requires c κs = search needs

@@ -1,25 +1,17 @@
-use lib.ListN.{take}
-use Rattle.splits.proofs.ListLaws.{compared-lists}
-use mathlib.Core.Path.{_≡_, sym, ap, ap₂, _∙_, subst}
-use mathlib.Core.List.{List}
-use Prim.Native.Nat.{ℕ, _+_, _≤_}
+-- `splits::compare_trees` meets its contract. Assumes nothing.
+use Rattle.splits.proofs.ListLaws.{compared-lists, listed-prefix, splits-few}
+use mathlib.Core.Path.{sym, ap, _∙_, subst}
+use Prim.Native.Nat.{ℕ}
 use native.Mathlib.Omega.{arith}
 use lib.ListN.{length, length-replicate}
 use Rattle.taxa.specs.Most.{most}
 use Rattle.tree.specs.Tree.{rows}
-use Rattle.tree.specs.Lists.{lacks, firstLack}
-use Rattle.tree.specs.Splits.{splits, dist, missing}
 use Rattle.tree.specs.Refusals.{Said, gives}
 use Rattle.tree.proofs.Lists.{Asc}
 use Rattle.tree.proofs.SplitLaws.{splits-asc}
-use Rattle.splits.proofs.ListLaws.{listed-prefix, splits-few}
 use borrow.Author.Needs.{needs}
 use Rattle.splits.proofs.compare_trees.Statement.{statement}
 use Rattle.splits.proofs.compare_trees.Tie as tie
-use Rattle.splits.proofs.compare_trees.Reads as reads
-use Rattle.splits.proofs.compare_trees.Lts as lts
-use Rattle.splits.proofs.compare_lists.Reads as compare-lists-reads
-use Rattle.splits.proofs.tree_splits.Reads as tree-splits-reads
 
 slice-aggregate-tree-splits : tie.Need-slice-aggregate-tree-splits
 slice-aggregate-tree-splits c = search needs

@@ -1,12 +1,9 @@
+-- `splits::induced_splits` meets its contract. Assumes nothing.
 use Rattle.near.proofs.LookLaws.{found-tree-is, found-refused}
 use Rattle.splits.proofs.SaidLaws.{induces-tree}
 use borrow.Author.Needs.{needs}
 use Rattle.splits.proofs.induced_splits.Statement.{statement}
 use Rattle.splits.proofs.induced_splits.Tie as tie
-use Rattle.splits.proofs.induced_splits.Reads as reads
-use Rattle.splits.proofs.induced_splits.Lts as lts
-use Rattle.near.proofs.look.Reads as look-reads
-use Rattle.splits.proofs.induced_tree.Reads as induced-tree-reads
 
 look-requires : tie.Need-look-requires
 look-requires c κs = search needs

@@ -1,7 +1,6 @@
-use mathlib.Core.Path.{_≡_, sym, ap, _∙_}
-use Prim.Native.Nat.{ℕ, _≤_, _<_, _^_}
+-- `splits::induced_tree` meets its contract. Assumes nothing.
+use mathlib.Core.Path.{sym, ap, _∙_}
 use native.Mathlib.Omega.{arith}
-use lib.Dec.{ltb}
 use borrow.Author.Tests.{not-true, not-false, ltb-true}
 use Rattle.taxa.specs.Most.{most}
 use Rattle.taxa.specs.Sets.{size}
@@ -12,12 +11,6 @@ use Rattle.splits.proofs.SaidLaws.{induces-6, induces-11, induces-list}
 use borrow.Author.Needs.{needs}
 use Rattle.splits.proofs.induced_tree.Statement.{statement}
 use Rattle.splits.proofs.induced_tree.Tie as tie
-use Rattle.splits.proofs.induced_tree.Reads as reads
-use Rattle.splits.proofs.induced_tree.Lts as lts
-use Rattle.splits.proofs.members.Reads as members-reads
-use Rattle.splits.proofs.tree_splits.Reads as tree-splits-reads
-use Rattle.taxa.proofs.size.Reads as size-reads
-use Rattle.taxa.proofs.within.Reads as within-reads
 
 within-requires : tie.Need-within-requires
 within-requires c κs =

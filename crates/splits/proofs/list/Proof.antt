@@ -1,19 +1,14 @@
+-- `splits::list` meets its contract. Assumes nothing.
 use mathlib.Core.Path.{_≡_, refl, sym, ap, _∙_, subst}
 use mathlib.Core.List.{List, []}
 use Prim.Native.Nat.{ℕ, _≤_, _-_}
 use native.Mathlib.Omega.{arith}
-use lib.ListN.{length}
 use Rattle.tree.specs.Tree.{rows}
 use Rattle.splits.specs.Listed.{splitsOf, Listed}
 use Rattle.splits.proofs.ListLaws.{splits-none, without-split, low-lt, listed-none, listed-length, listed-fits, listed-room, listed-more}
 use borrow.Author.Needs.{needs}
 use Rattle.splits.proofs.list.Statement.{statement}
 use Rattle.splits.proofs.list.Tie as tie
-use Rattle.splits.proofs.list.Reads as reads
-use Rattle.splits.proofs.list.Lts as lts
-use Rattle.splits.proofs.add.Reads as add-reads
-use Rattle.splits.proofs.without.Reads as without-reads
-use Rattle.taxa.proofs.lowest.Reads as lowest-reads
 
 abbrev Inv-loop : tie.InvT-loop
 Inv-loop n sides y out₀ low m len₀ i₀ out len i =

@@ -1,11 +1,9 @@
-use mathlib.Core.Path.{sym, _∙_}
+-- `splits::members` meets its contract. Assumes nothing.
 use native.Mathlib.Omega.{arith}
 use Rattle.tree.proofs.Members.{members-is}
 use borrow.Author.Needs.{needs}
 use Rattle.splits.proofs.members.Statement.{statement}
 use Rattle.splits.proofs.members.Tie as tie
-use Rattle.splits.proofs.members.Reads as reads
-use Rattle.splits.proofs.members.Lts as lts
 
 returns : tie.Need-returns
 returns c =

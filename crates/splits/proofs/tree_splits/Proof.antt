@@ -1,4 +1,5 @@
-use mathlib.Core.Path.{_≡_, sym, ap, subst}
+-- `splits::tree_splits` meets its contract. Assumes nothing.
+use mathlib.Core.Path.{sym, subst}
 use mathlib.Core.List.{List}
 use Prim.Native.Nat.{ℕ, _≤_}
 use lib.ListN.{length}
@@ -6,10 +7,6 @@ use Rattle.splits.proofs.ListLaws.{splits-all, listed-to}
 use borrow.Author.Needs.{needs}
 use Rattle.splits.proofs.tree_splits.Statement.{statement}
 use Rattle.splits.proofs.tree_splits.Tie as tie
-use Rattle.splits.proofs.tree_splits.Reads as reads
-use Rattle.splits.proofs.tree_splits.Lts as lts
-use Rattle.sides.proofs.sides.Reads as sides-reads
-use Rattle.splits.proofs.list.Reads as list-reads
 
 sides-requires : tie.Need-sides-requires
 sides-requires c κs =

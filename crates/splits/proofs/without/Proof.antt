@@ -1,3 +1,4 @@
+-- `splits::without` meets its contract. Assumes nothing.
 use mathlib.Core.Path.{sym, ap, _∙_}
 use mathlib.Core.Bool.{Bool}
 use lib.Bits.{bitAnd}
@@ -5,10 +6,6 @@ use Rattle.taxa.specs.Sets.{pick, less}
 use borrow.Author.Needs.{needs}
 use Rattle.splits.proofs.without.Statement.{statement}
 use Rattle.splits.proofs.without.Tie as tie
-use Rattle.splits.proofs.without.Reads as reads
-use Rattle.splits.proofs.without.Lts as lts
-use Rattle.taxa.proofs.has.Reads as has-reads
-use Rattle.taxa.proofs.less.Reads as less-reads
 
 has-requires : tie.Need-has-requires
 has-requires c κs = search needs

@@ -1,16 +1,11 @@
+-- `table::check_rows` meets its contract. Assumes nothing.
 use mathlib.Core.Path.{sym, _∙_}
-use native.Mathlib.Omega.{arith}
 use borrow.Author.Tests.{not-true, not-false}
 use Rattle.table.proofs.Stages.{is-1-low, is-1-high, is-2, is-3, is-4, is-rowed}
 use Rattle.table.proofs.Tallies.{ordered-of, degrees-test}
 use borrow.Author.Needs.{needs}
 use Rattle.table.proofs.check_rows.Statement.{statement}
 use Rattle.table.proofs.check_rows.Tie as tie
-use Rattle.table.proofs.check_rows.Reads as reads
-use Rattle.table.proofs.check_rows.Lts as lts
-use Rattle.table.proofs.degrees.Reads as degrees-reads
-use Rattle.table.proofs.degrees_right.Reads as degrees-right-reads
-use Rattle.table.proofs.ordered.Reads as ordered-reads
 
 returns : tie.Need-returns
 returns c =

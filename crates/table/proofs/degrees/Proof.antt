@@ -1,18 +1,14 @@
-use mathlib.Core.Path.{_≡_, refl, sym, ap, subst}
+-- `table::degrees` meets its contract. Assumes nothing.
+use mathlib.Core.Path.{_≡_, refl, ap, subst}
 use Prim.Native.Nat.{ℕ, _≤_, _-_, _+_}
 use lib.ListN.{getD, set}
 use native.Mathlib.Omega.{arith}
-use Rattle.taxa.specs.Most.{most}
-use Rattle.tree.specs.Tree.{rows, nodes}
+use Rattle.tree.specs.Tree.{rows}
 use Rattle.table.specs.Rowed.{Counted}
-use Rattle.table.proofs.Tallies.{counted-none, counted-more, lo-room, hi-room, lo-fits, hi-fits}
+use Rattle.table.proofs.Tallies.{counted-none, counted-more, lo-fits, hi-fits}
 use borrow.Author.Needs.{needs}
 use Rattle.table.proofs.degrees.Statement.{statement}
 use Rattle.table.proofs.degrees.Tie as tie
-use Rattle.table.proofs.degrees.Reads as reads
-use Rattle.table.proofs.degrees.Lts as lts
-use Rattle.table.proofs.hi.Reads as hi-reads
-use Rattle.table.proofs.lo.Reads as lo-reads
 
 abbrev Inv-loop : tie.InvT-loop
 Inv-loop n t d₀ m i₀ d i =

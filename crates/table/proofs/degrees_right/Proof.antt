@@ -1,6 +1,7 @@
+-- `table::degrees_right` meets its contract. Assumes nothing.
 use mathlib.Core.Path.{_≡_, refl, sym, ap, _∙_}
-use mathlib.Core.Bool.{Bool, true}
-use Prim.Native.Nat.{ℕ, _≤_, _-_}
+use mathlib.Core.Bool.{true}
+use Prim.Native.Nat.{_≤_, _-_}
 use native.Mathlib.Omega.{arith}
 use lib.Dec.{eqb}
 use lib.ListN.{getD}
@@ -10,9 +11,6 @@ use Rattle.tree.proofs.RowCounts.{not-every, every-more}
 use borrow.Author.Needs.{needs}
 use Rattle.table.proofs.degrees_right.Statement.{statement}
 use Rattle.table.proofs.degrees_right.Tie as tie
-use Rattle.table.proofs.degrees_right.Reads as reads
-use Rattle.table.proofs.degrees_right.Lts as lts
-use Rattle.table.proofs.wanted.Reads as wanted-reads
 
 abbrev Inv-loop : tie.InvT-loop
 Inv-loop n d m v₀ v =

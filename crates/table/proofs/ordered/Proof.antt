@@ -1,6 +1,7 @@
+-- `table::ordered` meets its contract. Assumes nothing.
 use mathlib.Core.Path.{_≡_, refl, sym, ap, ap₂, _∙_}
 use mathlib.Core.Bool.{Bool, true, _&&_}
-use Prim.Native.Nat.{ℕ, _≤_, _-_, _*_}
+use Prim.Native.Nat.{_≤_, _-_, _*_}
 use native.Mathlib.Omega.{arith}
 use lib.Dec.{ltb, leb}
 use borrow.Author.Tests.{lt-ltb, le-ltb, le-leb, lt-leb}
@@ -10,10 +11,6 @@ use Rattle.tree.proofs.RowCounts.{not-every, every-more}
 use borrow.Author.Needs.{needs}
 use Rattle.table.proofs.ordered.Statement.{statement}
 use Rattle.table.proofs.ordered.Tie as tie
-use Rattle.table.proofs.ordered.Reads as reads
-use Rattle.table.proofs.ordered.Lts as lts
-use Rattle.table.proofs.hi.Reads as hi-reads
-use Rattle.table.proofs.lo.Reads as lo-reads
 
 abbrev Inv-loop : tie.InvT-loop
 Inv-loop n t m i₀ i =

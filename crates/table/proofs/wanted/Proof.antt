@@ -1,12 +1,10 @@
+-- `table::wanted` meets its contract. Assumes nothing.
 use mathlib.Core.Path.{sym, ap}
 use mathlib.Core.Bool.{Bool}
 use borrow.Author.Tests.{lt-ltb, le-ltb}
 use Rattle.taxa.specs.Sets.{pick}
-use borrow.Author.Needs.{needs}
 use Rattle.table.proofs.wanted.Statement.{statement}
 use Rattle.table.proofs.wanted.Tie as tie
-use Rattle.table.proofs.wanted.Reads as reads
-use Rattle.table.proofs.wanted.Lts as lts
 
 returns : tie.Need-returns
 returns c =

@@ -1,3 +1,4 @@
+-- `taxa::full` meets its contract. Assumes nothing.
 use Prim.Native.Nat.{_-_}
 use native.Mathlib.Omega.{arith}
 use lib.Pow.{pow-pos}
@@ -6,9 +7,6 @@ use Rattle.taxa.proofs.Words.{full-fits, full-is}
 use borrow.Author.Needs.{needs}
 use Rattle.taxa.proofs.full.Statement.{statement}
 use Rattle.taxa.proofs.full.Tie as tie
-use Rattle.taxa.proofs.full.Reads as reads
-use Rattle.taxa.proofs.full.Lts as lts
-use Rattle.taxa.proofs.only.Reads as only-reads
 
 sub-only : tie.Need-sub-only
 sub-only c = search needs

@@ -1,9 +1,8 @@
+-- `taxa::has` meets its contract. Assumes nothing.
 use Rattle.taxa.specs.Sets.{has}
 use borrow.Author.Needs.{needs}
 use Rattle.taxa.proofs.has.Statement.{statement}
 use Rattle.taxa.proofs.has.Tie as tie
-use Rattle.taxa.proofs.has.Reads as reads
-use Rattle.taxa.proofs.has.Lts as lts
 
 shr-result : tie.Need-shr-result
 shr-result c = search needs

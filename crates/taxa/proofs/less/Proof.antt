@@ -1,9 +1,8 @@
+-- `taxa::less` meets its contract. Assumes nothing.
 use Rattle.taxa.specs.Sets.{less}
 use borrow.Author.Needs.{needs}
 use Rattle.taxa.proofs.less.Statement.{statement}
 use Rattle.taxa.proofs.less.Tie as tie
-use Rattle.taxa.proofs.less.Reads as reads
-use Rattle.taxa.proofs.less.Lts as lts
 
 returns : tie.Need-returns
 unfolding less

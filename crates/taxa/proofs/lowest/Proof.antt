@@ -1,3 +1,4 @@
+-- `taxa::lowest` meets its contract. Assumes nothing.
 use native.Mathlib.Omega.{arith}
 use lib.Count.{trailing-le}
 use Rattle.taxa.specs.Most.{most}
@@ -5,8 +6,6 @@ use Rattle.taxa.specs.Sets.{lowest}
 use borrow.Author.Needs.{needs}
 use Rattle.taxa.proofs.lowest.Statement.{statement}
 use Rattle.taxa.proofs.lowest.Tie as tie
-use Rattle.taxa.proofs.lowest.Reads as reads
-use Rattle.taxa.proofs.lowest.Lts as lts
 
 cast-result : tie.Need-cast-result
 cast-result c =

@@ -1,10 +1,9 @@
+-- `taxa::only` meets its contract. Assumes nothing.
 use native.Mathlib.Nat.{one-mul, mod-eq-of-lt}
 use lib.Pow.{pow-lt}
 use borrow.Author.Needs.{needs}
 use Rattle.taxa.proofs.only.Statement.{statement}
 use Rattle.taxa.proofs.only.Tie as tie
-use Rattle.taxa.proofs.only.Reads as reads
-use Rattle.taxa.proofs.only.Lts as lts
 
 shl-result : tie.Need-shl-result
 shl-result c = search needs

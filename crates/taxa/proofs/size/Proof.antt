@@ -1,3 +1,4 @@
+-- `taxa::size` meets its contract. Assumes nothing.
 use native.Mathlib.Omega.{arith}
 use lib.Count.{ones-le}
 use Rattle.taxa.specs.Most.{most}
@@ -5,8 +6,6 @@ use Rattle.taxa.proofs.Words.{ones-size}
 use borrow.Author.Needs.{needs}
 use Rattle.taxa.proofs.size.Statement.{statement}
 use Rattle.taxa.proofs.size.Tie as tie
-use Rattle.taxa.proofs.size.Reads as reads
-use Rattle.taxa.proofs.size.Lts as lts
 
 cast-result : tie.Need-cast-result
 cast-result c =

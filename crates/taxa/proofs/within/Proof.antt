@@ -1,13 +1,10 @@
+-- `taxa::within` meets its contract. Assumes nothing.
 use mathlib.Core.Path.{_∙_, ap}
-use Prim.Native.Nat.{ℕ}
 use lib.Dec.{leb}
 use Rattle.taxa.proofs.Words.{within-is}
 use borrow.Author.Needs.{needs}
 use Rattle.taxa.proofs.within.Statement.{statement}
 use Rattle.taxa.proofs.within.Tie as tie
-use Rattle.taxa.proofs.within.Reads as reads
-use Rattle.taxa.proofs.within.Lts as lts
-use Rattle.taxa.proofs.full.Reads as full-reads
 
 full-requires : tie.Need-full-requires
 full-requires c κs = search needs

@@ -1,11 +1,9 @@
+-- `tree_cases::numbers` meets its contract. Assumes nothing.
 use Prim.Native.Nat.{_≤_, _-_}
 use lib.ListN.{length}
 use borrow.Author.Needs.{needs}
 use Rattle.tree_cases.proofs.numbers.Statement.{statement}
 use Rattle.tree_cases.proofs.numbers.Tie as tie
-use Rattle.tree_cases.proofs.numbers.Reads as reads
-use Rattle.tree_cases.proofs.numbers.Lts as lts
-use Rattle.tree_cases.proofs.say.Reads as say-reads
 
 abbrev Inv-loop : tie.InvT-loop
 Inv-loop l i₀ i =
