@@ -8,7 +8,7 @@ use lib.Dec.{ltb, leb}
 use lib.ListN.{length, drop}
 use borrow.Author.Tests.{le-leb, lt-leb}
 use Rattle.tree.specs.Splits.{splits, dist, missing}
-use Rattle.tree.specs.Refusals.{Said, gives, refuses, judged, countChecks, tableChecks, treeChecks, partitionChecks, roomChecks, treeSaid, Accepted}
+use Rattle.tree.specs.Refusals.{Said, gives, refuses, judged, countChecks, tableChecks, treeChecks, partitionChecks, roomChecks, treeSaid, Accepted, written}
 use Rattle.tree.proofs.RefusalLaws.{Pass, judged-pass, judged-next, judged-fail, refuses-more, accepted-pass}
 use Rattle.table.specs.Says.{numberOf}
 use Rattle.table.specs.declared.Refusal.{Refusal}
@@ -18,7 +18,7 @@ use Rattle.splits.specs.declared.Induced.{Induced}
 use Rattle.splits.specs.declared.Induced.the-variants as induced
 use Rattle.splits.specs.declared.Compared.{Compared}
 use Rattle.splits.specs.declared.Compared.the-variants as compared
-use Rattle.splits.specs.Promises.{inducedSaid, howMany, written, inducedSays, Induces, comparedSaid, compareSays}
+use Rattle.splits.specs.Promises.{inducedSaid, howMany, inducedSays, Induces, comparedSaid, compareSays}
 
 -- ---- the induced splits
 module _ (n : ℕ) (t : List ℕ) (y : ℕ) (out : List ℕ) where

@@ -2,9 +2,9 @@
 use Prim.Native.Nat.{ℕ}
 use mathlib.Core.Path.{_≡_}
 use mathlib.Core.List.{List, _++_}
-use lib.ListN.{length, drop}
+use lib.ListN.{length}
 use Rattle.tree.specs.Splits.{splits, dist, missing}
-use Rattle.tree.specs.Refusals.{Said, gives, refuses, judged, tableChecks, treeChecks, partitionChecks, roomChecks}
+use Rattle.tree.specs.Refusals.{Said, gives, refuses, judged, tableChecks, treeChecks, partitionChecks, roomChecks, written}
 use Rattle.table.specs.Says.{numberOf}
 use Rattle.splits.specs.declared.Induced.{Induced}
 use Rattle.splits.specs.declared.Induced.the-variants as induced
@@ -17,14 +17,10 @@ use Rattle.splits.specs.declared.Compared.the-variants as compared
 abbrev pub inducedSaid : ℕ → List ℕ → ℕ → ℕ → Said (List ℕ)
 inducedSaid n t y room = judged (treeChecks n t ++ partitionChecks n y ++ roomChecks (length (splits n t y)) room) (splits n t y)
 
--- How many numbers are given, and the lent list after them: its first numbers are the answer's, and a refusal changes none.
+-- How many numbers are given.
 abbrev pub howMany : Said (List ℕ) → Said ℕ
 howMany (gives l) = gives (length l)
 howMany (refuses k) = refuses k
-
-abbrev pub written : Said (List ℕ) → List ℕ → List ℕ
-written (gives l) out = l ++ drop (length l) out
-written (refuses k) out = out
 
 -- What each answer says.
 abbrev pub inducedSays : Induced → Said ℕ

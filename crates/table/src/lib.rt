@@ -85,6 +85,17 @@ pub fn far(t: &[u8], r: usize, v: usize) -> usize
     a
 }
 
+// Whether row r is at node v.
+pub fn touches(t: &[u8], r: usize, v: usize) -> bool
+    requires { ⌜ 2 * r + 1 < length (now t) ⌝ }
+    ensures { λ b. ⌜ b ≡ tree_spec.touches (now (t .entry)) r v ⌝ }
+{
+    if lo(t, r) == v {
+        return true;
+    }
+    hi(t, r) == v
+}
+
 // Whether each row's ends are nodes, the smaller first.
 fn ordered(n: usize, t: &[u8]) -> bool
     requires { ⌜ (4 ≤ n) × (n ≤ most) × (length (now t) ≡ 2 * rows n) ⌝ }

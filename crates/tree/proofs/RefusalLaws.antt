@@ -2,7 +2,7 @@
 use mathlib.Core.Path.{_≡_, refl, sym, ap, _∙_}
 use mathlib.Core.Logic.{_⊎_, inl, inr, _↔_}
 use mathlib.Core.Bool.{Bool, true, false, true≢false, false≢true}
-use mathlib.Core.List.{List, [], _∷_, _++_}
+use mathlib.Core.List.{List, [], _∷_, _++_, append-nil}
 use Prim.Native.Nat.{ℕ, _*_, _-_, _<_}
 use native.Mathlib.Omega.{arith}
 use lib.Dec.{eqb, ltb, leb}
@@ -55,6 +55,10 @@ unfolding judged
 refuses-more [] ds a b k h = absurd (let z : _≡_ {A = ℕ} 0 1 = cc in omega arith)
 refuses-more ((true else j) ∷ cs) ds a b k h = refuses-more cs ds a b k h
 refuses-more {A} ((false else j) ∷ cs) ds a b k h = let e : j ≡ k = cc in ap refuses e
+
+-- and whatever the answer would have been
+pub refuses-any : {A B : Type 0} (cs : List Check) (a : A) (b : B) (k : ℕ) → judged cs a ≡ refuses k → judged cs b ≡ refuses k
+refuses-any cs a b k h = sym (ap (λ (ds : List Check). judged ds b) (append-nil cs)) ∙ refuses-more cs [] a b k h
 
 -- ---- a table that is accepted
 pub pass-accepted : (n : ℕ) (t : List ℕ) → Pass (treeChecks n t) → Accepted n t

@@ -3,7 +3,7 @@ use Prim.Native.Nat.{ℕ, _*_, _^_, _≤_}
 use mathlib.Core.Bool.{Bool, true, false, _&&_}
 use mathlib.Core.List.{List, [], _∷_, _++_}
 use lib.Dec.{eqb, ltb, leb}
-use lib.ListN.{length}
+use lib.ListN.{length, drop}
 use Rattle.taxa.specs.Most.{most, mostPartitions}
 use Rattle.tree.specs.Tree.{rows, nodes, inOrder, rightDegree, fromZero, every, Valid}
 
@@ -21,6 +21,11 @@ unfoldable pub judged : {A : Type 0} → List Check → A → Said A
 judged [] a = gives a
 judged ((true else k) ∷ cs) a = judged cs a
 judged ((false else k) ∷ cs) a = refuses k
+
+-- A lent list after a call that writes a list: its first numbers are the answer's, and a refusal changes none.
+abbrev pub written : Said (List ℕ) → List ℕ → List ℕ
+written (gives l) out = l ++ drop (length l) out
+written (refuses k) out = out
 
 -- 1: taxon count outside 4 to the most.
 abbrev pub countChecks : ℕ → List Check

@@ -1,0 +1,72 @@
+use mathlib.Core.Path.{sym, ap, ap₂, _∙_, subst}
+use mathlib.Core.Bool.{Bool, _&&_}
+use Prim.Native.Nat.{ℕ, _<_}
+use native.Mathlib.Omega.{arith}
+use Rattle.tree.specs.Tree.{touches}
+use Rattle.fits.proofs.FitLaws.{nni-outer, nni-x, nni-y, nni-one, nni-other}
+use borrow.Author.Needs.{needs}
+use Rattle.fits.proofs.nni_fits.Statement.{statement}
+use Rattle.fits.proofs.nni_fits.Tie as tie
+use Rattle.fits.proofs.nni_fits.Reads as reads
+use Rattle.fits.proofs.nni_fits.Lts as lts
+use Rattle.fits.proofs.at_both.Reads as at-both-reads
+use Rattle.table.proofs.hi.Reads as hi-reads
+use Rattle.table.proofs.lo.Reads as lo-reads
+
+lo-requires : tie.Need-lo-requires
+lo-requires c κs =
+    omega (arith, c .before .pre .0 .valid .len, c .before .pre .1)
+
+hi-requires : tie.Need-hi-requires
+hi-requires c κs =
+    omega (arith, c .before .before .pre .0 .valid .len, c .before .before .pre .1)
+
+returns : tie.Need-returns
+returns c =
+    let s = c .before .before .before .before in
+    nni-outer (s .args .n) (s .args .t .now) (s .args .e) (s .args .x) (s .args .y) (omega (arith, c .if1 .taken, c .before .before .lo .ensures))
+
+returns-2 : tie.Need-returns-2
+returns-2 c =
+    let s = c .before .before .before .before .before in
+    nni-x (s .args .n) (s .args .t .now) (s .args .e) (s .args .x) (s .args .y) (c .if2 .taken)
+
+returns-3 : tie.Need-returns-3
+returns-3 c =
+    let s = c .before .before .before .before .before .before in
+    nni-y (s .args .n) (s .args .t .now) (s .args .e) (s .args .x) (s .args .y) (c .if3 .taken)
+
+at-both-requires : tie.Need-at-both-requires
+at-both-requires c κs =
+    (omega (arith, c .before .before .before .before .before .before .pre .0 .valid .len, c .before .before .before .before .before .before .pre .2), omega (arith, c .before .before .before .before .before .before .pre .0 .valid .len, c .before .before .before .before .before .before .pre .3))
+
+returns-4 : tie.Need-returns-4
+returns-4 c =
+    let s = c .before .before .before .before .before .before .before .before in
+    nni-one (s .args .n) (s .args .t .now) (s .args .e) (s .args .x) (s .args .y) (s .pre .0 .valid) (s .pre .1) (omega (arith, c .before .before .before .before .if1 .left, c .before .before .before .before .before .before .lo .ensures)) (c .before .before .before .if2 .left) (c .before .before .if3 .left)
+    (ap₂ (λ (u v : ℕ). touches (s .args .t .now) (s .args .x) u && touches (s .args .t .now) (s .args .y) v) (sym (c .before .before .before .before .before .before .lo .ensures)) (sym (c .before .before .before .before .before .hi .ensures)) ∙ sym (c .before .at-both .ensures) ∙ c .if4 .taken)
+
+at-both-requires-2 : tie.Need-at-both-requires-2
+at-both-requires-2 c κs =
+    (omega (arith, c .before .before .before .before .before .before .before .before .pre .0 .valid .len, c .before .before .before .before .before .before .before .before .pre .2), omega (arith, c .before .before .before .before .before .before .before .before .pre .0 .valid .len, c .before .before .before .before .before .before .before .before .pre .3))
+
+returns-5 : tie.Need-returns-5
+returns-5 c =
+    let s = c .before .before .before .before .before .before .before .before .before in
+    c .at-both2 .ensures ∙ ap₂ (λ (u v : ℕ). touches (s .args .t .now) (s .args .x) u && touches (s .args .t .now) (s .args .y) v) (c .before .before .before .before .before .before .hi .ensures) (c .before .before .before .before .before .before .before .lo .ensures)
+    ∙ nni-other (s .args .n) (s .args .t .now) (s .args .e) (s .args .x) (s .args .y) (s .pre .0 .valid) (s .pre .1) (omega (arith, c .before .before .before .before .before .if1 .left, c .before .before .before .before .before .before .before .lo .ensures)) (c .before .before .before .before .if2 .left) (c .before .before .before .if3 .left)
+    (ap₂ (λ (u v : ℕ). touches (s .args .t .now) (s .args .x) u && touches (s .args .t .now) (s .args .y) v) (sym (c .before .before .before .before .before .before .before .lo .ensures)) (sym (c .before .before .before .before .before .before .hi .ensures)) ∙ sym (c .before .before .at-both .ensures) ∙ c .before .if4 .left)
+
+pub nni-fits-spec : {M : Type 1} → statement M
+nni-fits-spec =
+    tie.close
+    (tie.spec
+    lo-requires
+    hi-requires
+    returns
+    returns-2
+    returns-3
+    at-both-requires
+    returns-4
+    at-both-requires-2
+    returns-5)

@@ -1,0 +1,246 @@
+// The calls about a move: applied to a table, and judged for partitions before anything is scored.
+ghost use Prim.Native.Nat.{_^_, _<_, _≤_};
+ghost use mathlib.Core.Path.{_≡_};
+ghost use mathlib.Core.Bool.{true, _&&_};
+ghost use lib.Dec.{ltb, leb};
+ghost use lib.ListN.{length};
+ghost use Rattle.taxa.specs.Most.{most, mostPartitions};
+ghost use Rattle.tree.specs.Splits.{dist, distances};
+ghost use Rattle.tree.specs.Refusals.{Accepted, each, partitionsChecks};
+ghost use Rattle.tree.proofs.RefusalLaws.{Pass};
+ghost use Rattle.near.specs.Near.{Near};
+ghost use Rattle.sides.specs.Filled.{Sides};
+ghost use Rattle.moves.specs.Moves as moves_spec;
+ghost use Rattle.walks.specs.Way.{Listed, room};
+ghost use Rattle.fits.specs.Bytes.{moveOf};
+ghost use Rattle.judge.specs.Promises.{Applies, JudgesAll, JudgesOne, Fit, Told, firstGroups, secondGroups};
+
+use fits::Fitted;
+use fits::Move;
+use table::Checked;
+use table::Refusal;
+
+// The most partitions on a list.
+const PARTITIONS: usize = 64;
+
+// The answer of a move alone.
+pub enum Moved {
+    Done,
+    Refused(Refusal),
+}
+
+// The answer of a move judged for a list of partitions: how many are the same.
+pub enum Judged {
+    Same(usize),
+    Refused(Refusal),
+}
+
+// The answer of a move judged for one partition: its distance, 0 where it is the same.
+pub enum Verdict {
+    Distance(u64),
+    Refused(Refusal),
+}
+
+// Rewrites the rows of a move that fits.
+fn rewrite_rows(n: usize, t: &mut [u8], near: &[u8], s: &[u64], m: Move)
+    requires { ⌜ Fit n (now t) (now near) (now s) (moveOf m) ⌝ }
+    ensures { λ _. ⌜ now (t .exit) ≡ moves_spec.moved n (now (t .entry)) (moveOf m) ⌝ }
+{
+    let kind = m.kind;
+    let a = m.first as usize;
+    let b = m.second as usize;
+    let c = m.third as usize;
+    if kind == 1 {
+        rewrite::exchange(t, a, b, c);
+        return;
+    }
+    if kind == 2 {
+        let p = walks::end_with(n, t, s, a, b);
+        rewrite::graft(n, t, near, p, a, b);
+        return;
+    }
+    rewrite::cut(n, t, near, a, b, c);
+}
+
+// The same where the table is a tree: refusals 7 to 10.
+fn apply_tree(n: usize, t: &mut [u8], near: &[u8], m: Move) -> Moved
+    requires { ⌜ (Accepted n (now t)) × (Near n (now t) (now near)) ⌝ }
+    ensures { λ r. ⌜ Applies n (now (t .entry)) (moveOf m) r (now (t .exit)) ⌝ }
+{
+    let s = sides::sides(n, t, near);
+    let fit = fits::fitted(n, t, &s, m);
+    match fit {
+        Fitted::Refused(r) => Moved::Refused(r),
+        Fitted::Fits => {
+            rewrite_rows(n, t, near, &s, m);
+            Moved::Done
+        }
+    }
+}
+
+// Applies a move to a table: refusals 1 to 5 and 7 to 10.
+pub fn apply_move(n: usize, t: &mut [u8], m: Move) -> Moved
+    ensures { λ r. ⌜ Applies n (now (t .entry)) (moveOf m) r (now (t .exit)) ⌝ }
+{
+    let l = near::look(n, t);
+    let near = l.near;
+    let answer = l.answer;
+    match answer {
+        Checked::Refused(r) => Moved::Refused(r),
+        Checked::Tree => apply_tree(n, t, &near, m),
+    }
+}
+
+// Lists the groups on the first side of a move that fits; how many.
+fn first_groups(n: usize, t: &[u8], near: &[u8], s: &[u64], m: Move, out: &mut [u64; walks::ROOM]) -> usize
+    requires { ⌜ (Fit n (now t) (now near) (now s) (moveOf m)) × (length (now out) ≡ room) ⌝ }
+    ensures { λ k. ⌜ Listed room (firstGroups n (now (t .entry)) (moveOf m)) (now (out .entry)) k (now (out .exit)) ⌝ }
+{
+    let kind = m.kind;
+    let a = m.first as usize;
+    let b = m.second as usize;
+    if kind == 2 {
+        let p = walks::end_with(n, t, s, a, b);
+        return walks::way(n, t, near, s, a, p, b, out);
+    }
+    let u = table::lo(t, a);
+    if kind == 1 {
+        return walks::stays(n, t, near, s, a, u, out);
+    }
+    walks::way(n, t, near, s, a, u, b, out)
+}
+
+// Lists the groups on the second side of a move that fits; how many.
+fn second_groups(n: usize, t: &[u8], near: &[u8], s: &[u64], m: Move, out: &mut [u64; walks::ROOM]) -> usize
+    requires { ⌜ (Fit n (now t) (now near) (now s) (moveOf m)) × (length (now out) ≡ room) ⌝ }
+    ensures { λ k. ⌜ Listed room (secondGroups n (now (t .entry)) (moveOf m)) (now (out .entry)) k (now (out .exit)) ⌝ }
+{
+    let kind = m.kind;
+    let a = m.first as usize;
+    let b = m.second as usize;
+    let c = m.third as usize;
+    if kind == 2 {
+        let p = walks::end_with(n, t, s, a, b);
+        let o = table::far(t, a, p);
+        return walks::stays(n, t, near, s, a, o, out);
+    }
+    let v = table::hi(t, a);
+    if kind == 1 {
+        return walks::stays(n, t, near, s, a, v, out);
+    }
+    walks::way(n, t, near, s, a, v, c, out)
+}
+
+// Writes the distance over each partition at the start of out; how many are the same.
+fn judge_groups(n: usize, t: &[u8], near: &[u8], s: &[u64], ys: &[u64], m: Move, out: &mut [u64]) -> usize
+    requires { ⌜ (Fit n (now t) (now near) (now s) (moveOf m)) × (each (λ y. ltb y (2 ^ n)) (now ys) ≡ true) × (length (now ys) ≤ length (now out)) ⌝ }
+    ensures { λ r. ⌜ Told (distances n (now (t .entry)) (moves_spec.moved n (now (t .entry)) (moveOf m)) (now (ys .entry))) (now (out .entry)) r (now (out .exit)) ⌝ }
+{
+    let mut gs = [0u64; walks::ROOM];
+    let mut hs = [0u64; walks::ROOM];
+    let k = first_groups(n, t, near, s, m, &mut gs);
+    let j = second_groups(n, t, near, s, m, &mut hs);
+    rules::distance_each(m.kind == 1, &gs[..k], &hs[..j], ys, out)
+}
+
+// Whether a list of partitions has one at least and not too many, and none names a taxon n or above.
+fn partitions_right(n: usize, ys: &[u64]) -> bool
+    requires { ⌜ (4 ≤ n) × (n ≤ most) ⌝ }
+    ensures { λ b. ⌜ b ≡ (leb 1 (length (now (ys .entry))) && leb (length (now (ys .entry))) mostPartitions && each (λ y. ltb y (2 ^ n)) (now (ys .entry))) ⌝ }
+{
+    if ys.len() == 0 {
+        return false;
+    }
+    if PARTITIONS < ys.len() {
+        return false;
+    }
+    let mut i: usize = 0;
+    while i < ys.len() {
+        if !taxa::within(ys[i], n) {
+            return false;
+        }
+        i += 1;
+    }
+    true
+}
+
+// The judgement of a tree's move that fits, where the partitions are right: refusal 11.
+fn judge_fit(n: usize, t: &[u8], near: &[u8], s: &[u64], ys: &[u64], m: Move, out: &mut [u64]) -> Judged
+    requires { ⌜ (Fit n (now t) (now near) (now s) (moveOf m)) × (Pass (partitionsChecks n (now ys))) ⌝ }
+    ensures { λ r. ⌜ JudgesAll n (now (t .entry)) (now (ys .entry)) (moveOf m) (now (out .entry)) r (now (out .exit)) ⌝ }
+{
+    if out.len() < ys.len() {
+        return Judged::Refused(Refusal::Room);
+    }
+    Judged::Same(judge_groups(n, t, near, s, ys, m, out))
+}
+
+// The judgement of a tree's move: refusals 6 to 11.
+fn judge_tree(n: usize, t: &[u8], near: &[u8], ys: &[u64], m: Move, out: &mut [u64]) -> Judged
+    requires { ⌜ (Accepted n (now t)) × (Near n (now t) (now near)) ⌝ }
+    ensures { λ r. ⌜ JudgesAll n (now (t .entry)) (now (ys .entry)) (moveOf m) (now (out .entry)) r (now (out .exit)) ⌝ }
+{
+    if !partitions_right(n, ys) {
+        return Judged::Refused(Refusal::Partition);
+    }
+    let s = sides::sides(n, t, near);
+    let fit = fits::fitted(n, t, &s, m);
+    match fit {
+        Fitted::Refused(r) => Judged::Refused(r),
+        Fitted::Fits => judge_fit(n, t, near, &s, ys, m, out),
+    }
+}
+
+// Judges a move for a list of partitions, the distance of each written into out; the table is not changed. Refusals 1 to 11.
+pub fn judge_move(n: usize, t: &[u8], ys: &[u64], m: Move, out: &mut [u64]) -> Judged
+    ensures { λ r. ⌜ JudgesAll n (now (t .entry)) (now (ys .entry)) (moveOf m) (now (out .entry)) r (now (out .exit)) ⌝ }
+{
+    let l = near::look(n, t);
+    let near = l.near;
+    let answer = l.answer;
+    match answer {
+        Checked::Refused(r) => Judged::Refused(r),
+        Checked::Tree => judge_tree(n, t, &near, ys, m, out),
+    }
+}
+
+// The distance over y of a move that fits.
+fn one_groups(n: usize, t: &[u8], near: &[u8], s: &[u64], y: u64, m: Move) -> u64
+    requires { ⌜ (Fit n (now t) (now near) (now s) (moveOf m)) × (y < 2 ^ n) ⌝ }
+    ensures { λ d. ⌜ d ≡ dist n (now (t .entry)) (moves_spec.moved n (now (t .entry)) (moveOf m)) y ⌝ }
+{
+    let mut gs = [0u64; walks::ROOM];
+    let mut hs = [0u64; walks::ROOM];
+    let k = first_groups(n, t, near, s, m, &mut gs);
+    let j = second_groups(n, t, near, s, m, &mut hs);
+    rules::distance(m.kind == 1, &gs[..k], &hs[..j], y)
+}
+
+// The judgement of a tree's move for one partition: refusals 6 to 10.
+fn one_tree(n: usize, t: &[u8], near: &[u8], y: u64, m: Move) -> Verdict
+    requires { ⌜ (Accepted n (now t)) × (Near n (now t) (now near)) ⌝ }
+    ensures { λ r. ⌜ JudgesOne n (now (t .entry)) y (moveOf m) r ⌝ }
+{
+    if !taxa::within(y, n) {
+        return Verdict::Refused(Refusal::Partition);
+    }
+    let s = sides::sides(n, t, near);
+    let fit = fits::fitted(n, t, &s, m);
+    match fit {
+        Fitted::Refused(r) => Verdict::Refused(r),
+        Fitted::Fits => Verdict::Distance(one_groups(n, t, near, &s, y, m)),
+    }
+}
+
+// Judges a move for one partition. Refusals 1 to 10.
+pub fn judge_one(n: usize, t: &[u8], y: u64, m: Move) -> Verdict
+    ensures { λ r. ⌜ JudgesOne n (now (t .entry)) y (moveOf m) r ⌝ }
+{
+    let l = near::look(n, t);
+    let near = l.near;
+    let answer = l.answer;
+    match answer {
+        Checked::Refused(r) => Verdict::Refused(r),
+        Checked::Tree => one_tree(n, t, &near, y, m),
+    }
+}

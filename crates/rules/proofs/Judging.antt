@@ -1,0 +1,84 @@
+-- Groups are counted one by one, a number for each partition on a list is written in order, and the numbers are the distances of two trees. Assumes nothing.
+use mathlib.Core.Path.{_≡_, refl, ap, _∙_}
+use mathlib.Core.Bool.{true}
+use mathlib.Core.List.{List, [], _∷_, _++_, append-assoc}
+use Prim.Native.Nat.{ℕ, suc, _+_, _^_, _<_, _≤_}
+use native.Mathlib.Omega.{arith}
+use native.Mathlib.Numerals.{add-one}
+use lib.Bits.{bitAnd}
+use lib.Dec.{eqb, ltb}
+use lib.ListN.{length, take, drop, getD, set, length-append, length-drop}
+use lib.Seq.{take-suc, drop-cons, set-at, length-take-le, take-length}
+use borrow.Author.Tests.{ltb-true}
+use Rattle.taxa.specs.Sets.{tally, some}
+use Rattle.taxa.proofs.Sizes.{tally-one}
+use Rattle.taxa.proofs.Bools.{and-left, and-right}
+use Rattle.tree.specs.Splits.{dist, distances, unchanged}
+use Rattle.tree.specs.Refusals.{each}
+use Rattle.moves.specs.Groups.{met}
+use Rattle.moves.proofs.GroupLists.{met-append}
+use Rattle.rules.specs.Each.{mapped, zeros, Judges}
+
+-- ---- the group at place i, past those before it
+pub met-next : (y : ℕ) (gs : List ℕ) (i : ℕ) → i < length gs → met y (take (i + 1) gs) ≡ met y (take i gs) + tally (some (bitAnd (getD gs i 0) y))
+unfolding met
+met-next y gs i l = rw (add-one, take-suc gs i 0 l, met-append) (omega arith)
+
+-- ---- one number more
+length-mapped : (f : ℕ → ℕ) (ys : List ℕ) → length (mapped f ys) ≡ length ys
+unfolding mapped
+length-mapped f [] = refl
+length-mapped f (y ∷ ys) = ap suc (length-mapped f ys)
+
+mapped-more : (f : ℕ → ℕ) (xs : List ℕ) (y : ℕ) → mapped f (xs ++ y ∷ []) ≡ mapped f xs ++ f y ∷ []
+unfolding mapped
+mapped-more f [] y = refl
+mapped-more f (x ∷ xs) y = rw (mapped-more f xs y)
+
+zeros-more : (xs : List ℕ) (x : ℕ) → zeros (xs ++ x ∷ []) ≡ zeros xs + tally (eqb x 0)
+unfolding zeros
+zeros-more [] x = omega arith
+zeros-more (z ∷ xs) x = omega (arith, zeros-more xs x)
+
+zeros-le : (xs : List ℕ) → zeros xs ≤ length xs
+unfolding zeros
+zeros-le [] = omega arith
+zeros-le (x ∷ xs) = omega (arith, zeros-le xs, tally-one (eqb x 0))
+
+pub judge-none : (f : ℕ → ℕ) (o : List ℕ) → Judges f [] o 0 o
+unfolding mapped zeros
+judge-none f o = record { count = refl; memory = refl }
+
+-- the first i of ys are done
+module _ {f : ℕ → ℕ} (ys : List ℕ) {o : List ℕ} (i : ℕ) (within : i ≤ length ys) {r : ℕ} {out : List ℕ} (so-far : Judges f (take i ys) o r out) where
+  size : length (take i ys) ≡ i
+  size = length-take-le i ys within
+
+  pub judge-few : r ≤ i
+  judge-few = omega (arith, zeros-le (mapped f (take i ys)), length-mapped f (take i ys), size)
+
+  pub judge-end : length ys ≤ i → Judges f ys o r out
+  judge-end m = let e : i ≡ length ys = omega arith in rw (e, take-length) at so-far
+
+  pub judge-length : length ys ≤ length o → length out ≡ length o
+  judge-length room = rw (so-far .memory, length-append, length-mapped, length-drop, size) (omega arith)
+
+  pub judge-next : length ys ≤ length o → i < length ys → (d : ℕ) → d ≡ f (getD ys i 0) → Judges f (take (i + 1) ys) o (r + tally (eqb d 0)) (set out i d)
+  judge-next room l d e = let more : mapped f (take (i + 1) ys) ≡ mapped f (take i ys) ++ d ∷ [] = rw (add-one, take-suc ys i 0 l, mapped-more, e) in record {
+    count = rw (more, zeros-more, so-far .count);
+    memory =
+        rw (so-far .memory, more, size, length-take-le (i + 1) ys (omega arith), drop-cons o i 0 (omega arith), add-one, append-assoc)
+        (set-at (mapped f (take i ys)) (getD o i 0) (drop (suc i) o) d i (length-mapped f (take i ys) ∙ size));
+  }
+
+-- ---- the numbers are distances
+pub mapped-distances : (f : ℕ → ℕ) (n : ℕ) (t u ys : List ℕ) → each (λ y. ltb y (2 ^ n)) ys ≡ true → ((y : ℕ) → y < 2 ^ n → f y ≡ dist n t u y) → mapped f ys ≡ distances n t u ys
+unfolding mapped distances each
+mapped-distances f n t u [] h k = refl
+mapped-distances f n t u (y ∷ ys) h k =
+    rw (k y (ltb-true y (2 ^ n) (and-left (ltb y (2 ^ n)) (each (λ z. ltb z (2 ^ n)) ys) h)), mapped-distances f n t u ys (and-right (ltb y (2 ^ n)) (each (λ z. ltb z (2 ^ n)) ys) h) k)
+
+pub zeros-unchanged : (n : ℕ) (t u ys : List ℕ) → zeros (distances n t u ys) ≡ unchanged n t u ys
+unfolding zeros distances unchanged
+zeros-unchanged n t u [] = refl
+zeros-unchanged n t u (y ∷ ys) = rw (zeros-unchanged n t u ys)

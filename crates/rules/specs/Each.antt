@@ -1,0 +1,28 @@
+-- A number for each partition on a list, and how many of the numbers are 0.
+use Prim.Native.Nat.{ℕ, _+_}
+use mathlib.Core.Path.{_≡_}
+use mathlib.Core.Bool.{Bool}
+use mathlib.Core.List.{List, [], _∷_, _++_}
+use lib.ListN.{length, drop}
+use lib.Dec.{eqb}
+use Rattle.taxa.specs.Sets.{pick, tally}
+use Rattle.moves.specs.Groups.{met, rule}
+
+-- f of each number on a list
+unfoldable pub mapped : (ℕ → ℕ) → List ℕ → List ℕ
+mapped f [] = []
+mapped f (y ∷ ys) = f y ∷ mapped f ys
+
+-- how many numbers on a list are 0
+unfoldable pub zeros : List ℕ → ℕ
+zeros [] = 0
+zeros (x ∷ xs) = tally (eqb x 0) + zeros xs
+
+-- the distance over y from the groups gs and hs on the two sides: of an NNI 2 where all four are met, else 0; otherwise by the rule
+abbrev pub byGroups : Bool → List ℕ → List ℕ → ℕ → ℕ
+byGroups nni gs hs y = pick nni (pick (eqb (met y gs + met y hs) 4) 2 0) (rule (met y gs) (met y hs))
+
+-- out′ is out with f of each of ys in place of its first numbers, and r is how many of these are 0
+pub record Judges (f : ℕ → ℕ) (ys out : List ℕ) (r : ℕ) (out′ : List ℕ) : Type 0 where
+  pub count : r ≡ zeros (mapped f ys)
+  pub memory : out′ ≡ mapped f ys ++ drop (length ys) out

@@ -1,0 +1,32 @@
+use mathlib.Core.Path.{sym, ap, _∙_}
+use mathlib.Core.Bool.{Bool, _||_}
+use Prim.Native.Nat.{ℕ}
+use lib.Dec.{eqb}
+use borrow.Author.Tests.{eq-eqb, ne-eqb}
+use Rattle.tree.specs.Tree.{lo, hi}
+use borrow.Author.Needs.{needs}
+use Rattle.table.proofs.touches.Statement.{statement}
+use Rattle.table.proofs.touches.Tie as tie
+use Rattle.table.proofs.touches.Reads as reads
+use Rattle.table.proofs.touches.Lts as lts
+use Rattle.table.proofs.hi.Reads as hi-reads
+use Rattle.table.proofs.lo.Reads as lo-reads
+
+lo-requires : tie.Need-lo-requires
+lo-requires c κs = search needs
+
+returns : tie.Need-returns
+returns c =
+    let s = c .before .before .before in
+    sym (ap (λ (b : Bool). b || eqb (hi (s .args .t .now) (s .args .r)) (s .args .v)) (eq-eqb (lo (s .args .t .now) (s .args .r)) (s .args .v) (sym (c .before .lo .ensures) ∙ c .if1 .taken)))
+
+hi-requires : tie.Need-hi-requires
+hi-requires c κs = search needs
+
+returns-2 : tie.Need-returns-2
+returns-2 c =
+    let s = c .before .before .before .before in
+    ap (λ (x : ℕ). eqb x (s .args .v)) (c .hi .ensures) ∙ sym (ap (λ (b : Bool). b || eqb (hi (s .args .t .now) (s .args .r)) (s .args .v)) (ne-eqb (lo (s .args .t .now) (s .args .r)) (s .args .v) (λ d. c .before .if1 .left (c .before .before .lo .ensures ∙ d))))
+
+pub touches-spec : {M : Type 1} → statement M
+touches-spec = tie.close (tie.spec lo-requires returns hi-requires returns-2)
