@@ -15,13 +15,12 @@ use Rattle.tree.proofs.Joins.{Joins, touch-joins, joins-flip, joins-same, joins
 use Rattle.tree.proofs.Colourings.{hangs, two-sides, valid-table, part-is}
 use Rattle.moves.specs.Moves.{moveEnd}
 use Rattle.moves.specs.Groups.{walk, met, rule}
-use Rattle.moves.proofs.RowEnds.{touch-same}
 use Rattle.moves.proofs.SprMove.{EndFits}
 use Rattle.moves.proofs.Chain.{Chain}
 use Rattle.moves.proofs.TwoChains.{two-dist}
 use Rattle.moves.proofs.Graft.{Graft, a-same, a-parts}
 use Rattle.moves.proofs.Walk.{Walk}
-use Rattle.moves.proofs.WalkKeep.{same-ends, Safe, walk-keep}
+use Rattle.moves.proofs.WalkKeep.{same-ends, touch-keep, Safe, walk-keep}
 use Rattle.moves.proofs.SprDist.{found, way-chain}
 use Rattle.moves.proofs.Covers.{Covers, side-met, rule-two}
 use Rattle.moves.proofs.Aims.{way-covers}
@@ -70,10 +69,10 @@ module _ {n : ℕ} {t t′ : List ℕ} {a w h b F N X p q r s u z : ℕ} (k : Gr
     valid = k .valid′;
     a-lt = a-lt;
     b-lt = k₂ .b-lt;
-    a-p = touch-same t t′ a q (a-same k) ∙ k₂ .a-p;
+    a-p = touch-keep k a q q-in ∙ k₂ .a-p;
     inner = k₂ .inner;
     ba = k₂ .ba;
-    b-p = λ e. k₂ .b-p (sym (touch-same t t′ c q c-same) ∙ e);
+    b-p = λ e. k₂ .b-p (sym (touch-keep k c q q-in) ∙ e);
     b-out = ap₂ (λ (x y : ℕ). has (part n t′ a x) y) far′ (c-same .0) ∙ other-side (lo t c) lo-c ∙ ap not c-in;
   }
 

@@ -1,17 +1,17 @@
 -- Two lists of splits that differ along one chain of groups, and the same chain from its other end. No table here. Assumes nothing.
-use mathlib.Core.Path.{_≡_, refl, sym, ap, ap₂, _∙_, subst}
+use mathlib.Core.Path.{_≡_, sym, ap, ap₂, _∙_, subst}
 use mathlib.Core.Logic.{_⊎_, inl, inr}
 use mathlib.Core.Bool.{Bool, true, false, not, _&&_, _||_, true≢false, false≢true, or-true}
 use mathlib.Core.List.{List, [], _∷_, _++_, reverse, append-assoc, reverse-append, reverse-reverse, reverse-cons}
 use Prim.Native.Nat.{ℕ, _^_, _<_}
 use lib.Bits.{bitAnd, bitOr}
 use Rattle.taxa.specs.Sets.{has, less, some}
-use Rattle.taxa.proofs.Bools.{either, and-left, and-right, not-both}
-use Rattle.taxa.proofs.Sets.{has-or, has-and, has-less, some-has, some-zero, none-zero}
+use Rattle.taxa.proofs.Bools.{either, and-left, and-right, not-both, not-swap}
+use Rattle.taxa.proofs.Sets.{has-or, has-less, some-zero, none-zero}
 use Rattle.tree.specs.Lists.{mem}
 use Rattle.tree.specs.Splits.{split, meets}
 use Rattle.tree.proofs.Lists.{Asc}
-use Rattle.tree.proofs.SplitLaws.{some-meets, meets-some}
+use Rattle.tree.proofs.SplitLaws.{some-meets}
 use Rattle.moves.proofs.RowSplits.{Corners}
 use Rattle.moves.proofs.GroupLists.{any, union, has-union, any-reverse, union-reverse}
 
@@ -102,13 +102,7 @@ flip {n} {y} {w} {gs} {xs} {ys} k = record {
     back′ x (inl m) = inl m
     back′ x (inr v) = inr (reverse (v .1), reverse (v .0), turned′ gs (v .0) (v .1) (v .2), v .3 ∙ ap (split n y) (sym (with-reverse w (v .0))))
 
--- ---- splits that are kept, and not
--- a set that parts two members of y has a split
-pub split-some : (n y s i j : ℕ) → has y i ≡ true → has y j ≡ true → has s i ≡ true → has s j ≡ false → some (split n y s) ≡ true
-unfolding meets
-split-some n y s i j yi yj si sj =
-    meets-some n y s (ap₂ _&&_ (some-has (bitAnd s y) i (has-and s y i ∙ ap₂ _&&_ si yi)) (some-has (less y s) j (has-less y s j ∙ ap₂ (λ (p q : Bool). p && not q) yj sj)))
-
+-- ---- a split that is not kept
 -- a set that has all of y has none
 pub split-none : (n y s : ℕ) → y < 2 ^ n → ((i : ℕ) → has y i ≡ true → has s i ≡ true) → some (split n y s) ≡ true → ⊥
 unfolding meets
@@ -121,14 +115,10 @@ split-none n y s b all h =
         false≢true (sym (ap not (all i (and-left (has y i) (not (has s i)) q))) ∙ and-right (has y i) (not (has s i)) q)
 
 -- ---- where a member of y is
-not-true-of : (p q : Bool) → p ≡ not q → p ≡ true → q ≡ false
-not-true-of p true e h = absurd (false≢true (sym e ∙ h))
-not-true-of p false e h = refl
-
 module _ {n y w : ℕ} {gs xs ys : List ℕ} (k : Chain n y w gs xs ys) where
   -- members of the groups are none of w's
   pub out-w : (i : ℕ) → has y i ≡ true → any i gs ≡ true → has w i ≡ false
-  out-w i h p = not-true-of (any i gs) (has w i) (k .rest i h) p
+  out-w i h p = not-swap (any i gs) (has w i) (k .rest i h) ∙ ap not p
 
   -- a member of the last groups is in none of the first
   pub sep′ : (ls bs : List ℕ) → gs ≡ ls ++ bs → (i : ℕ) → has y i ≡ true → any i bs ≡ true → any i ls ≡ false

@@ -19,8 +19,9 @@ use Rattle.tree.proofs.SplitLaws.{split-eq, split-pairs}
 use Rattle.moves.specs.Groups.{met}
 use Rattle.moves.proofs.Meeting.{Miss, Met, some-met, none-miss}
 use Rattle.moves.proofs.RowSplits.{Corners}
+use Rattle.tree.proofs.Growth.{kept-by}
 use Rattle.moves.proofs.GroupLists.{any, any-append, any-one, any-l, any-r, any-mid, snoc, met-append, met-reverse, first-met, one-met, none-met}
-use Rattle.moves.proofs.Chain.{with-w, has-with, with-in, with-any, with-out, sep′, Chain, flip, split-some, split-none}
+use Rattle.moves.proofs.Chain.{with-w, has-with, with-in, with-any, with-out, sep′, Chain, flip, split-none}
 
 -- ---- what xs has and ys lacks: ls being the first groups, one split for each group after them that is met and has two met behind it
 unfoldable pub lost : ℕ → ℕ → ℕ → List ℕ → List ℕ → List ℕ
@@ -201,10 +202,10 @@ module _ {n y w : ℕ} {gs xs ys : List ℕ} (k : Chain n y w gs xs ys) where
         s′-j = with-out k bs (v .5) (v .6) (any-l gs front bs e₂ (v .5) j-front) (k .sep front bs e₂ (v .5) (v .6) j-front)
 
         in-xs : mem x xs ≡ true
-        in-xs = ap (λ (z : ℕ). mem z xs) (v .3) ∙ k .cut cs ds (v .2) (split-some n y s (mw .0) i (mw .1) (f .4 .1) (with-in w cs (mw .0) (mw .2)) s-i)
+        in-xs = ap (λ (z : ℕ). mem z xs) (v .3) ∙ k .cut cs ds (v .2) (kept-by n y s (mw .0) i (mw .1) (f .4 .1) (with-in w cs (mw .0) (mw .2)) s-i)
 
         in-ys : mem (split n y s′) ys ≡ true
-        in-ys = k .cut′ front bs e₂ (split-some n y s′ (mw .0) i (mw .1) (f .4 .1) (with-in w bs (mw .0) (mw .2)) s′-i)
+        in-ys = k .cut′ front bs e₂ (kept-by n y s′ (mw .0) i (mw .1) (f .4 .1) (with-in w bs (mw .0) (mw .2)) s′-i)
 
         corners : Corners y s s′
         corners true true = (mw .0, mw .1, with-in w cs (mw .0) (mw .2), with-in w bs (mw .0) (mw .2))

@@ -2,26 +2,27 @@
 -- misses it. This is Proposition 1, for any two tables of which one is the other with two rows exchanged. Assumes nothing.
 use mathlib.Core.Path.{_≡_, refl, sym, ap, ap₂, _∙_}
 use mathlib.Core.Logic.{_⊎_, inl, inr}
-use mathlib.Core.Bool.{Bool, true, false, not, _&&_, _||_, true≢false, false≢true, or-false}
+use mathlib.Core.Bool.{Bool, true, false, not, _||_, true≢false, false≢true, or-false}
 use mathlib.Core.List.{List}
 use Prim.Native.Nat.{ℕ, _+_, _^_, _≤_, _<_}
 use native.Mathlib.Omega.{arith}
 use lib.Dec.{eqb}
-use lib.Bits.{bitAnd}
 use borrow.Author.Tests.{eqb-true, eqb-false, ne-eqb}
-use Rattle.taxa.specs.Sets.{has, less, some}
-use Rattle.taxa.proofs.Bools.{either, and-both, _⊕_}
-use Rattle.taxa.proofs.Sets.{has-and, has-less, has-below, some-has}
+use Rattle.taxa.specs.Sets.{has, some}
+use Rattle.taxa.proofs.Bools.{either, _⊕_}
+use Rattle.taxa.proofs.Sets.{has-below}
 use Rattle.tree.specs.Tree.{lo, hi, rows, nodes, part, Valid}
 use Rattle.tree.specs.Lists.{mem, lacks}
-use Rattle.tree.specs.Splits.{meets, split, splits, dist}
-use Rattle.tree.proofs.Joins.{Joins, join-flat, flat-join, join-apart, apart-join}
+use Rattle.tree.specs.Splits.{split, splits, dist}
+use Rattle.tree.proofs.Joins.{join-flat, flat-join, join-apart, apart-join}
 use Rattle.tree.proofs.Bridges.{Table}
-use Rattle.tree.proofs.Colourings.{Parts, Hangs, row-parts, valid-table, never-cross, disjoint}
+use Rattle.tree.proofs.Colourings.{Parts, Hangs, row-parts, valid-table, never-cross}
 use Rattle.tree.proofs.Lists.{lacks-none, lacks-one}
-use Rattle.tree.proofs.SplitLaws.{num, num-of, split-eq, split-pairs, meets-some, kept-in, kept-out, splits-asc}
+use Rattle.tree.proofs.SplitLaws.{num, num-of, split-eq, split-pairs, kept-in, kept-out, splits-asc}
 use Rattle.tree.proofs.Forks.{Fork, joined, has-joined, joined-parts, joined-at, A-at-q, B-at-q}
+use Rattle.tree.proofs.Growth.{kept-by}
 use Rattle.moves.proofs.Meeting.{Miss, Met}
+use Rattle.moves.proofs.RowEnds.{hang-apart}
 
 -- ---- a node p and what hangs from it by rows x and f: the split of its third row e
 module _ (n : ℕ) (t : List ℕ) (p e x f q a c : ℕ) (k : Fork n t p e x f q a c) (A B : ℕ) (ha : Hangs n t x p A) (hb : Hangs n t f p B)
@@ -45,19 +46,6 @@ module _ (n : ℕ) (t : List ℕ) (p e x f q a c : ℕ) (k : Fork n t p e x f q 
       num-e
       ∙ split-eq n Y (joined A B p) A bound false (λ i h. on-Y i h ∙ ap (λ (b : Bool). has A i || b) (m i h) ∙ or-false (has A i))
       ∙ sym (num-of n t (vt .big) (valid-table n t vt) Y x A bound (k .x-lt) (ha .parts))
-
--- ---- sets that hang apart have no node in common
-
--- a set that has not one end of a row and that the row does not leave has not its smaller end
-pub out-lo : (t : List ℕ) (r u v S : ℕ) → Joins t r u v → has S u ≡ false → has S (lo t r) ≡ has S (hi t r) → has S (lo t r) ≡ false
-out-lo t r u v S (inl j) h w = ap (has S) (j .0) ∙ h
-out-lo t r u v S (inr j) h w = w ∙ ap (has S) (j .1) ∙ h
-
--- S hangs by row r, which has an end u outside S′, and S′ by row r′, which has an end u′ outside S
-pub hang-apart : (n : ℕ) (t : List ℕ) (r u v r′ u′ v′ S S′ : ℕ) → Table n t → r < rows n → r′ < rows n → (r ≡ r′ → ⊥) → Joins t r u v → Joins t r′ u′ v′
-    → Parts n t r S → Parts n t r′ S′ → has S′ u ≡ false → has S u′ ≡ false → (i : ℕ) → i < nodes n → has S i ≡ true → has S′ i ≡ false
-hang-apart n t r u v r′ u′ v′ S S′ tab l l′ d j j′ a b o o′ =
-    disjoint n t r r′ S S′ tab l l′ d a b (out-lo t r u v S′ j o (b .closed r l d)) (out-lo t r′ u′ v′ S j′ o′ (a .closed r′ l′ (λ w. d (sym w))))
 
 -- ---- the exchange: of row e's ends p and q, row x is at p and y at q before, and y at p and x at q after; f and g are the third rows there
 pub record Exchange (n : ℕ) (t t′ : List ℕ) (e x y f g p q a b c d : ℕ) : Type 0 where
@@ -308,13 +296,9 @@ module _ (n : ℕ) (t t′ : List ℕ) (e x y f g p q a b c d : ℕ) (k : Exchan
 
       -- row e's split over Y is kept
       kept : some (num n t Y e) ≡ true
-      unfolding meets
       kept =
-          let U = joined A B p in
           ap some (num-e n t p e x f q a c (k .P) A B (four .hA) (four .hB) (k .valid) Y bound)
-          ∙ meets-some n Y U (and-both (some (bitAnd U Y)) (some (less Y U))
-          (some-has (bitAnd U Y) (mA .0) (has-and U Y (mA .0) ∙ ap₂ _&&_ Z-A (mA .1)))
-          (some-has (less Y U) (mC .0) (has-less Y U (mC .0) ∙ ap₂ (λ (u v : Bool). u && not v) (mC .1) Z-C)))
+          ∙ kept-by n Y (joined A B p) (mA .0) (mC .0) (mA .1) (mC .1) Z-A Z-C
 
       -- so t′ lacks the one split
       pub lacks-it : lacks (splits n t Y) (splits n t′ Y) ≡ 1

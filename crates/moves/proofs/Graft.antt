@@ -46,7 +46,7 @@ xor-false true = refl
 xor-false false = refl
 
 -- the set S with the members of M and p exchanged: those in S leave it, the others come into it
-pub crossed : ℕ → ℕ → ℕ → ℕ
+unfoldable pub crossed : ℕ → ℕ → ℕ → ℕ
 crossed M p S = bitXor S (add M p)
 
 pub has-crossed : (M p S i : ℕ) → has (crossed M p S) i ≡ (has S i ⊕ (has M i || eqb p i))
@@ -107,26 +107,26 @@ module _ {n : ℕ} {t t′ : List ℕ} {a w h b F N X p o r s u z M : ℕ} (k : 
   pub a-parts : Parts n t′ a M
   a-parts = keep-parts a M (k .fork .ef) (k .fork .ex) (λ d. k .ba (sym d)) (k .hM .parts) (k .hM .out ∙ sym (k .M-u))
 
-  -- a set that hangs from p beyond h, without b, is what F parts
-  pub hang-parts : (H : ℕ) → Hangs n t h p H → has H u ≡ false → Parts n t′ F H
-  hang-parts H q Hu =
-      let c = has H in
-      let rw′ = at-w c (q .parts .closed w (k .fork .f-lt) (λ i. k .fork .xf (sym i))) in
-      let uz = at-b c (q .parts .closed b (k .b-lt) (k .bh)) in
+  -- a set of h that leaves p and b together is what F parts
+  pub hang-parts : (S : ℕ) → Parts n t h S → has S p ≡ has S u → Parts n t′ F S
+  hang-parts S q pu =
+      let c = has S in
+      let rw′ = at-w c (q .closed w (k .fork .f-lt) (λ i. k .fork .xf (sym i))) in
+      let uz = at-b c (q .closed b (k .b-lt) (k .bh)) in
       record {
-        apart = join-apart t′ F r s c (k .F-row) (sym rw′ ∙ apart-join t h p s c (k .fork .x-row) (q .parts .apart));
-        closed = flat-after F c (λ i. absurd (i refl)) (λ i. Hu ∙ sym (q .out)) (λ i. q .out ∙ sym Hu ∙ uz) (λ j l d x y v. q .parts .closed j l y);
+        apart = join-apart t′ F r s c (k .F-row) (sym rw′ ∙ apart-join t h p s c (k .fork .x-row) (q .apart));
+        closed = flat-after F c (λ i. absurd (i refl)) (λ i. sym pu) (λ i. pu ∙ uz) (λ j l d x y v. q .closed j l y);
       }
 
-  -- what lies beyond b is what X parts
-  pub far-parts : (D : ℕ) → Hangs n t b u D → has D p ≡ false → Parts n t′ X D
-  far-parts D q Dp =
-      let c = has D in
-      let rw′ = at-w c (q .parts .closed w (k .fork .f-lt) (λ i. k .bw (sym i))) in
-      let sh = at-h c (q .parts .closed h (k .fork .x-lt) (λ i. k .bh (sym i))) in
+  -- b's set, which parts p from z, is what X parts
+  pub far-parts : (S : ℕ) → Parts n t b S → has S p ≡ has S u → Parts n t′ X S
+  far-parts S q pu =
+      let c = has S in
+      let rw′ = at-w c (q .closed w (k .fork .f-lt) (λ i. k .bw (sym i))) in
+      let sh = at-h c (q .closed h (k .fork .x-lt) (λ i. k .bh (sym i))) in
       record {
-        apart = join-apart t′ X p z c (k .X-row) (Dp ∙ sym (q .out) ∙ apart-join t b u z c (k .b-row) (q .parts .apart));
-        closed = flat-after X c (λ i. sym rw′ ∙ sh) (λ i. q .out ∙ sym Dp) (λ i. absurd (i refl)) (λ j l d x y v. q .parts .closed j l v);
+        apart = join-apart t′ X p z c (k .X-row) (pu ∙ apart-join t b u z c (k .b-row) (q .apart));
+        closed = flat-after X c (λ i. sym rw′ ∙ sh) (λ i. sym pu) (λ i. absurd (i refl)) (λ j l d x y v. q .closed j l v);
       }
 
   -- ---- M and p exchanged: at a node of M and at p the set turns over, elsewhere it stays
@@ -218,7 +218,7 @@ module _ {n : ℕ} {t t′ : List ℕ} {a w h b F N X p o r s u z M : ℕ} (k : 
         closed = crossed-flat e e S ea ew eh q zp (λ i. uz ∙ zp) (λ j d jb. d);
       }
 
-  -- b's set at u, less M and p, is what N parts
+  -- b's set with M and p exchanged is what N parts
   pub near-parts : (S : ℕ) → Parts n t b S → has S p ≡ has S u → Parts n t′ N (crossed M p S)
   near-parts S q pu =
       let zp : has S z ≡ not (has S p) = not-swap (has S u) (has S z) (apart-join t b u z (has S) (k .b-row) (q .apart)) ∙ sym (ap not pu) in

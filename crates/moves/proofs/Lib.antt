@@ -1,5 +1,6 @@
 pub mod Aims
 pub mod BothMove
+pub mod CaseTable
 pub mod Chain
 pub mod ChainCount
 pub mod Covers
@@ -8,12 +9,17 @@ pub mod Exchange
 pub mod Graft
 pub mod GroupLists
 pub mod Meeting
+pub mod MoveDemands
+pub mod Moved
+pub mod Named
 pub mod NniMove
 pub mod NniSwap
 pub mod Puts
 pub mod Regraft
 pub mod RowEnds
+pub mod RowSets
 pub mod RowSplits
+pub mod SidesAfter
 pub mod SprChain
 pub mod SprDist
 pub mod SprMove

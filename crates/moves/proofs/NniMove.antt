@@ -20,7 +20,8 @@ use Rattle.tree.proofs.Forks.{Fork}
 use Rattle.moves.specs.Moves.{endOn, nni, nniFits}
 use Rattle.moves.specs.Groups.{met, stayed, nniRule}
 use Rattle.moves.proofs.Meeting.{Miss, some-met, none-miss}
-use Rattle.moves.proofs.ThirdRow.{meetsBy, met-append, third-row}
+use Rattle.moves.proofs.GroupLists.{met-append}
+use Rattle.moves.proofs.ThirdRow.{meetsBy, third-row}
 use Rattle.moves.proofs.Exchange.{Exchange, Four, exchange-same, exchange-changed}
 use Rattle.moves.proofs.NniSwap.{NniFit, NniRows, swapped, fit-flip, rows-flip, not-both, xy, swapped-rows, swapped-valid}
 
@@ -63,7 +64,7 @@ module _ (n : ℕ) (t : List ℕ) (e x y p q : ℕ) (k : NniFit n t e x y p q) w
   t′ = swapped t x y p q
 
   module _ (f g : ℕ) (P : Fork n t p e x f q (far t x p) (far t f p)) (Q : Fork n t q e y g p (far t y q) (far t g q)) where
-    exchange : Exchange n t t′ e x y f g p q (far t x p) (far t y q) (far t f p) (far t g q)
+    pub exchange : Exchange n t t′ e x y f g p q (far t x p) (far t y q) (far t f p) (far t g q)
     exchange =
         let w = swapped-rows n t e x y p q k in
         let k′ = fit-flip n t e x y p q k in
@@ -152,7 +153,7 @@ module _ (n : ℕ) (t : List ℕ) (e x y p q : ℕ) (k : NniFit n t e x y p q) w
       total (inr j) = rw (j .0, j .1) (omega (arith, P3 .2 Y bound, Q3 .2 Y bound))
 
 -- ---- the move itself
-nni-eq : (t : List ℕ) (e x y : ℕ) → nni t e x y ≡ swapped t x y (endOn t e x) (far t e (endOn t e x))
+pub nni-eq : (t : List ℕ) (e x y : ℕ) → nni t e x y ≡ swapped t x y (endOn t e x) (far t e (endOn t e x))
 unfolding nni swapped
 nni-eq t e x y = refl
 

@@ -1,14 +1,14 @@
 -- The splits before and after p is moved onto b are a chain of the groups on the way. Assumes nothing.
 use mathlib.Core.Path.{_≡_, refl, sym, ap, _∙_}
 use mathlib.Core.Logic.{_⊎_, inl, inr}
-use mathlib.Core.Bool.{Bool, true, false, not, _||_, true≢false, false≢true, or-true, or-false, or-assoc}
+use mathlib.Core.Bool.{Bool, true, false, not, _||_, true≢false, or-true, or-false, or-assoc}
 use mathlib.Core.List.{List, [], _∷_, _++_}
 use Prim.Native.Nat.{ℕ, _^_, _<_}
 use native.Mathlib.Omega.{arith}
 use lib.Dec.{eqb}
 use borrow.Author.Tests.{eqb-true, eqb-false}
 use Rattle.taxa.specs.Sets.{has, some}
-use Rattle.taxa.proofs.Bools.{either, _⊕_}
+use Rattle.taxa.proofs.Bools.{either, _⊕_, not-swap}
 use Rattle.taxa.proofs.Sets.{has-below}
 use Rattle.tree.specs.Tree.{lo, rows, part}
 use Rattle.tree.specs.Lists.{mem}
@@ -65,7 +65,7 @@ module _ {n : ℕ} {t t′ : List ℕ} {a w h b F N X p o r s u z M : ℕ} (k : 
       (out-z way P₁ (base k inv₁))
 
   F-parts : Parts n t′ F H
-  F-parts = hang-parts k H hH H-u
+  F-parts = hang-parts k H (hH .parts) (hH .out ∙ sym H-u)
 
   first-row′ : Row n t′ (λ i. has P₁ i ⊕ has M i)
   first-row′ = record {
@@ -131,14 +131,10 @@ module _ {n : ℕ} {t t′ : List ℕ} {a w h b F N X p o r s u z M : ℕ} (k : 
     turned′ false true = refl
     turned′ false false = refl
 
-    not-false : (x : Bool) → false ≡ not x → x ≡ true
-    not-false true e = refl
-    not-false false e = absurd (false≢true e)
-
     -- ---- the splits of W with the first groups are there before, those of W with the last after
     xs-cut : (ls bs : List ℕ) → g₁ ∷ gs ≡ ls ++ bs → some (split n y (with-w W ls)) ≡ true → mem (split n y (with-w W ls)) (splits n t y) ≡ true
     unfolding any
-    xs-cut ls [] e q = absurd (split-none n y (with-w W ls) bound (λ i yi. with-is ls i yi ∙ not-false (has M i || any i ls) (tail-is ls [] e i yi)) q)
+    xs-cut ls [] e q = absurd (split-none n y (with-w W ls) bound (λ i yi. with-is ls i yi ∙ not-swap false (has M i || any i ls) (tail-is ls [] e i yi)) q)
     xs-cut ls (g ∷ bs) e q = row-mem (k .valid) y bound (λ i. has M i || any i ls) (with-w W ls) false (rows-at ls bs g e) (with-is ls) q
 
     ys-cut : (ls bs : List ℕ) → g₁ ∷ gs ≡ ls ++ bs → some (split n y (with-w W bs)) ≡ true → mem (split n y (with-w W bs)) (splits n t′ y) ≡ true
@@ -270,7 +266,7 @@ module _ {n : ℕ} {t t′ : List ℕ} {a w h b F N X p o r s u z M : ℕ} (k : 
             inr (way-cut′ x b N (k .N-lt) (v .3 ∙ ap (num n t′ y) (eqb-true j N q₁)) Rb
             (near-parts k (Rb .S) (Rb .parts) (Rb .p-in ∙ sym b-u)))
         go (inr q) (inr q₁) (inl q₂) q₃ =
-            inl (to-x x (D .0) (v .2) (v .3 ∙ ap (num n t′ y) (eqb-true j X q₂) ∙ num-t′ X (D .0) (k .X-lt) (far-parts k (D .0) (D .1) (D .2)))
+            inl (to-x x (D .0) (v .2) (v .3 ∙ ap (num n t′ y) (eqb-true j X q₂) ∙ num-t′ X (D .0) (k .X-lt) (far-parts k (D .0) (D .1 .parts) (D .2 ∙ sym (D .1 .out))))
             (record { row = b; set = D .0; lt = k .b-lt; parts = D .1 .parts; is = λ i l. refl }))
         go (inr q) (inr q₁) (inr q₂) (inl q₃) =
             let R = on-way k way P₁ inv₁ j q₃ in

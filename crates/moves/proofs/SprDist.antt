@@ -107,9 +107,10 @@ module _ {n : ℕ} {t : List ℕ} {p a b f g : ℕ} (k : EndFits n t p a b) (K :
         go (inl j) = ap (has (part n t a (far t a p))) (sym (j .0)) ∙ k .b-out
         go (inr j) = ap (has (part n t a (far t a p))) (sym (j .1)) ∙ sym (hM n t p a b f g k K .parts .closed b (k .b-lt) (k .ba)) ∙ k .b-out
 
-    mk : (N X : ℕ) → Joins t′ N u p → Joins t′ X p z → N < rows n → X < rows n → ((j : ℕ) → (j ≡ N → ⊥) → (j ≡ X → ⊥) → (j ≡ b → ⊥) × (j ≡ g → ⊥))
+    -- the move as a `Graft`, where N and X are b and g in the order that fits
+    pub graft-of : (N X : ℕ) → Joins t′ N u p → Joins t′ X p z → N < rows n → X < rows n → ((j : ℕ) → (j ≡ N → ⊥) → (j ≡ X → ⊥) → (j ≡ b → ⊥) × (j ≡ g → ⊥))
         → Graft n t t′ a w h b f N X p (far t a p) r s u z (part n t a (far t a p))
-    mk N X jN jX lN lX out = record {
+    graft-of N X jN jX lN lX out = record {
       valid = k .valid;
       valid′ = after-valid n t p a b f g k K;
       fork = fork-turn po (fork-turn ps q);
@@ -137,13 +138,13 @@ module _ {n : ℕ} {t : List ℕ} {p a b f g : ℕ} (k : EndFits n t p a b) (K :
         go (inl j) = (
           b,
           g,
-          mk b g (subst (λ (i : ℕ). Joins t′ b i p) (j .0) (b-row n t p a b f g k K)) (subst (λ (i : ℕ). Joins t′ g p i) (j .1) (g-row n t p a b f g k K))
+          graft-of b g (subst (λ (i : ℕ). Joins t′ b i p) (j .0) (b-row n t p a b f g k K)) (subst (λ (i : ℕ). Joins t′ g p i) (j .1) (g-row n t p a b f g k K))
               (k .b-lt) (K .g-lt) (λ i x y. (x, y)),
         )
         go (inr j) = (
           g,
           b,
-          mk g b (joins-flip t′ g p u (subst (λ (i : ℕ). Joins t′ g p i) (j .1) (g-row n t p a b f g k K)))
+          graft-of g b (joins-flip t′ g p u (subst (λ (i : ℕ). Joins t′ g p i) (j .1) (g-row n t p a b f g k K)))
               (joins-flip t′ b z p (subst (λ (i : ℕ). Joins t′ b i p) (j .0) (b-row n t p a b f g k K)))
               (K .g-lt) (k .b-lt) (λ i x y. (y, x)),
         )

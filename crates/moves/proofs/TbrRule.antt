@@ -1,28 +1,31 @@
 -- A TBR whose rows fit: the table stays valid, and the distance is the papers' rule, from the groups met on the two sides. Assumes nothing.
-use mathlib.Core.Path.{_≡_, refl, sym, ap, ap₂, _∙_, subst}
-use mathlib.Core.Logic.{_⊎_, inl, inr}
+use mathlib.Core.Path.{_≡_, refl, sym, ap₂, _∙_, subst}
 use mathlib.Core.Bool.{Bool, true, false}
 use mathlib.Core.List.{List}
 use Prim.Native.Nat.{ℕ, _^_, _<_}
 use native.Mathlib.Omega.{arith}
-use Rattle.taxa.specs.Sets.{pick, has}
+use Rattle.taxa.specs.Sets.{pick}
 use Rattle.taxa.proofs.Bools.{not-both}
 use Rattle.tree.specs.Tree.{lo, hi, rows, nodes, touches, far, part, Valid}
 use Rattle.tree.specs.Splits.{splits, dist}
+use Rattle.tree.proofs.Rounds.{part-start}
 use Rattle.tree.proofs.Joins.{lo-touch, hi-touch, far-lo, far-hi}
 use Rattle.tree.proofs.Lists.{lacks-none}
 use Rattle.moves.specs.Moves.{moveEnd, stayOr, tbr, target}
 use Rattle.moves.specs.Groups.{walk, groups, met, rule, tbrRule}
-use Rattle.moves.proofs.RowEnds.{touch-same}
-use Rattle.moves.proofs.SprMove.{moveEnd-valid}
+use Rattle.moves.proofs.SprMove.{EndFits, moveEnd-valid}
 use Rattle.moves.proofs.Chain.{Chain}
-use Rattle.moves.proofs.Graft.{Graft, a-same}
-use Rattle.moves.proofs.WalkKeep.{same-ends}
-use Rattle.moves.proofs.SprDist.{found, SomeGraft, some-graft, move-chain}
+use Rattle.moves.proofs.Graft.{Graft}
+use Rattle.moves.proofs.WalkKeep.{touch-keep}
+use Rattle.moves.proofs.SprDist.{found, some-graft, move-chain}
 use Rattle.moves.proofs.Covers.{Covers, rule-comm, rule-few}
 use Rattle.moves.proofs.SprRule.{one-rule}
-use Rattle.moves.proofs.Aims.{Aim, Taxon, Inner, kind, inner-groups, way-covers, side-covers, side-few, side-fits}
+use Rattle.moves.proofs.Aims.{Aim, inner-groups, way-covers, side-covers, side-few, side-fits}
 use Rattle.moves.proofs.BothMove.{fits₂, two-rule}
+
+-- a test that fails does not pass
+not-so : (x : Bool) → x ≡ false → x ≡ true → ⊥
+not-so x e d = not-both x d e
 
 -- b is the target of a's smaller end, c that of its larger end
 module _ {n : ℕ} {t : List ℕ} {a b c : ℕ} (low : Aim n t a (lo t a) b) (high : Aim n t a (hi t a) c) where
@@ -61,14 +64,23 @@ module _ {n : ℕ} {t : List ℕ} {a b c : ℕ} (low : Aim n t a (lo t a) b) (hi
             ∙ rule-comm (met y (groups n t a (hi t a) c)) (met y (groups n t a (lo t a) b)),
       )
 
+  -- the move of the smaller end: the part that is moved is that of the larger
+  first-graft : (touches t b (lo t a) ≡ true → ⊥)
+      → (w h F N X r s u z : ℕ) × Graft n t (moveEnd n t (lo t a) a b) a w h b F N X (lo t a) (hi t a) r s u z (part n t a (hi t a))
+  first-graft tb =
+      subst (λ (x : ℕ). (w h F N X r s u z : ℕ) × Graft n t (moveEnd n t (lo t a) a b) a w h b F N X (lo t a) x r s u z (part n t a x)) fp
+      (some-graft (side-fits low tb))
+
+  -- it leaves the larger end at the same rows
+  kept : (touches t b (lo t a) ≡ true → ⊥) → (j : ℕ) → touches (moveEnd n t (lo t a) a b) j (hi t a) ≡ touches t j (hi t a)
+  kept tb j = touch-keep (first-graft tb .9) j (hi t a) (part-start n t a (hi t a))
+
   both-move : (touches t b (lo t a) ≡ true → ⊥) → (touches t c (hi t a) ≡ true → ⊥) → Goal (moveEnd n (moveEnd n t (lo t a) a b) (hi t a) a c)
   both-move tb tc =
       let k₁ = side-fits low tb in
       let k₂ = side-fits high tc in
       let t₁ = moveEnd n t (lo t a) a b in
-      let G = some-graft k₁ in
-      let g : Graft n t t₁ a (G .0) (G .1) b (G .2) (G .3) (G .4) (lo t a) (hi t a) (G .5) (G .6) (G .7) (G .8) (part n t a (hi t a))
-      = subst (λ (x : ℕ). Graft n t t₁ a (G .0) (G .1) b (G .2) (G .3) (G .4) (lo t a) x (G .5) (G .6) (G .7) (G .8) (part n t a x)) fp (G .9) in
+      let g = first-graft tb .9 in
       let gs = walk n t b (nodes n) (lo t a) a in (
         moveEnd-valid n t₁ (hi t a) a c (fits₂ g k₂),
         λ y bound.
@@ -77,23 +89,6 @@ module _ {n : ℕ} {t : List ℕ} {a b c : ℕ} (low : Aim n t a (lo t a) b) (hi
             two-rule g k₂ y gs bound C (way-covers n t a (lo t a) b gs (low .valid) (low .a-lt) (low .b-lt) (lo-touch t a) (found k₁))
             ∙ ap₂ (λ (x x′ : List ℕ). rule (met y x) (met y x′)) (sym (inner-groups low (k₁ .inner))) (sym (inner-groups high (k₂ .inner))),
       )
-
-  -- the first move leaves the second target's ends
-  kept : (touches t b (lo t a) ≡ true → ⊥) → touches (moveEnd n t (lo t a) a b) c (hi t a) ≡ touches t c (hi t a)
-  kept tb = go (kind high)
-    where
-      t₁ : List ℕ
-      t₁ = moveEnd n t (lo t a) a b
-
-      G : SomeGraft n t (moveEnd n t (lo t a) a b) (lo t a) a b
-      G = some-graft (side-fits low tb)
-
-      go : Taxon n a (hi t a) c ⊎ Inner n t a (hi t a) c → touches t₁ c (hi t a) ≡ touches t c (hi t a)
-      go (inl w) = touch-same t t₁ c (hi t a) (subst (λ (j : ℕ). (lo t₁ j ≡ lo t j) × (hi t₁ j ≡ hi t j)) (sym (w .1)) (a-same (G .9)))
-      go (inr w) = touch-same t t₁ c (hi t a) (same-ends (G .9) c (lo t c) (hi t c) (inl (refl, refl)) (ap (λ (x : ℕ). has (part n t a x) (lo t c)) fp ∙ w .2))
-
-  not-so : (x : Bool) → x ≡ false → x ≡ true → ⊥
-  not-so x e d = not-both x d e
 
   tbr-goal : Goal (tbr n t a b c)
   unfolding tbr stayOr
@@ -112,15 +107,33 @@ module _ {n : ℕ} {t : List ℕ} {a b c : ℕ} (low : Aim n t a (lo t a) b) (hi
 
       go : (B : Bool) → touches t b (lo t a) ≡ B → Goal (pick (touches (pick B t t₁) c (hi t a)) (pick B t t₁) (moveEnd n (pick B t t₁) (hi t a) a c))
       go true e = stay e (touches t c (hi t a)) refl
-      go false e = move e (touches t₁ c (hi t a)) (sym (kept (not-so (touches t b (lo t a)) e)))
+      go false e = move e (touches t₁ c (hi t a)) (sym (kept (not-so (touches t b (lo t a)) e) c))
+
+  -- whether the smaller end moves or stays, the larger is at the same rows
+  pub at-high : (j : ℕ) → touches (stayOr n t (lo t a) a b) j (hi t a) ≡ touches t j (hi t a)
+  unfolding stayOr
+  at-high j = go (touches t b (lo t a)) refl
+    where
+      go : (B : Bool) → touches t b (lo t a) ≡ B → touches (pick B t (moveEnd n t (lo t a) a b)) j (hi t a) ≡ touches t j (hi t a)
+      go true e = refl
+      go false e = kept (not-so (touches t b (lo t a)) e) j
+
+  -- and where its target does not touch it, it fits
+  pub next-fits : (touches (stayOr n t (lo t a) a b) c (hi t a) ≡ true → ⊥) → EndFits n (stayOr n t (lo t a) a b) (hi t a) a c
+  unfolding stayOr
+  next-fits tc = go (touches t b (lo t a)) refl (λ h. tc (at-high c ∙ h))
+    where
+      go : (B : Bool) → touches t b (lo t a) ≡ B → (touches t c (hi t a) ≡ true → ⊥) → EndFits n (pick B t (moveEnd n t (lo t a) a b)) (hi t a) a c
+      go true e d = side-fits high d
+      go false e d = fits₂ (first-graft (not-so (touches t b (lo t a)) e) .9) (side-fits high d)
 
 -- ---- the move of kind 3: each target fits its end
 module _ (n : ℕ) (t : List ℕ) (a b c : ℕ) (vt : Valid n t) (la : a < rows n) (lb : b < rows n) (lc : c < rows n)
     (low : target n t a (lo t a) b ≡ true) (high : target n t a (hi t a) c ≡ true) where
-  aim-low : Aim n t a (lo t a) b
+  pub aim-low : Aim n t a (lo t a) b
   aim-low = record { valid = vt; a-lt = la; b-lt = lb; a-v = lo-touch t a; fits = low }
 
-  aim-high : Aim n t a (hi t a) c
+  pub aim-high : Aim n t a (hi t a) c
   aim-high = record { valid = vt; a-lt = la; b-lt = lc; a-v = hi-touch t a; fits = high }
 
   pub tbr-valid : Valid n (tbr n t a b c)

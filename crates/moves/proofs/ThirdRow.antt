@@ -3,7 +3,7 @@
 use mathlib.Core.Path.{_≡_, sym, ap, _∙_, subst}
 use mathlib.Core.Logic.{_⊎_, inl, inr}
 use mathlib.Core.Bool.{true, false}
-use mathlib.Core.List.{List, [], _∷_, _++_}
+use mathlib.Core.List.{List, [], _∷_}
 use Prim.Native.Nat.{ℕ, _+_, _^_, _≤_, _<_}
 use native.Mathlib.Nat.{add-comm}
 use native.Mathlib.Omega.{arith}
@@ -18,12 +18,6 @@ use Rattle.tree.proofs.RowCounts.{Pair, pair}
 use Rattle.tree.proofs.Forks.{Fork, fork-of, fork-swap}
 use Rattle.moves.specs.Groups.{beyond, stayed, met}
 use Rattle.moves.proofs.Meeting.{meet-below}
-
--- ---- how many of two lists of groups meet Y
-pub met-append : (Y : ℕ) (gs hs : List ℕ) → met Y (gs ++ hs) ≡ met Y gs + met Y hs
-unfolding met
-met-append Y [] hs = omega arith
-met-append Y (g ∷ gs) hs = omega (arith, met-append Y gs hs)
 
 -- 1 where what hangs from node p by row r meets Y, else 0
 abbrev pub meetsBy : ℕ → List ℕ → ℕ → ℕ → ℕ → ℕ

@@ -12,9 +12,9 @@ use Rattle.taxa.proofs.Bools.{either, _⊕_, xor-at-true}
 use Rattle.tree.specs.Tree.{lo, hi, rows, nodes, Valid}
 use Rattle.tree.specs.Lists.{mem}
 use Rattle.tree.proofs.Joins.{Joins, flat-join, apart-join, joins-nodes}
-use Rattle.tree.proofs.Colourings.{Hangs, parts-unique, disjoint, valid-table}
+use Rattle.tree.proofs.Colourings.{Hangs, parts-unique, valid-table}
 use Rattle.tree.proofs.Forks.{Fork, joined, has-joined, joined-parts, joined-out, joined-in, joined-at, at-a}
-use Rattle.moves.proofs.RowEnds.{out-lo, both-in}
+use Rattle.moves.proofs.RowEnds.{hang-apart, both-in}
 use Rattle.moves.proofs.GroupLists.{any}
 use Rattle.moves.proofs.RowSplits.{Row, row-eq}
 
@@ -70,9 +70,8 @@ module _ {n : ℕ} {t : List ℕ} {v x e h v′ q i P H : ℕ} (k : Fork n t v x
 
   -- no node lies both behind e and beyond h
   pub no-common : Valid n t → (j : ℕ) → j < nodes n → has P j ≡ true → has H j ≡ false
-  no-common vt = disjoint n t e h P H (valid-table n t vt) (k .x-lt) (k .f-lt) (k .xf) (hP .parts) (hH .parts)
-      (out-lo t e v q H (k .x-row) (hH .out) (hH .parts .closed e (k .x-lt) (k .xf)))
-      (out-lo t h v i P (k .f-row) (hP .out) (hP .parts .closed h (k .f-lt) (λ w. k .xf (sym w))))
+  no-common vt =
+      hang-apart n t e v q h v i P H (valid-table n t vt) (k .x-lt) (k .f-lt) (k .xf) (k .x-row) (k .f-row) (hP .parts) (hH .parts) (hH .out) (hP .out)
 
   -- a row inside P stays inside, and is none of the rows at v ahead
   pub inside-step : (j : ℕ) → Inside t P e j → Inside t (joined P H v) x j

@@ -7,11 +7,12 @@ use Prim.Native.Nat.{ℕ, _<_}
 use lib.Dec.{eqb}
 use borrow.Author.Tests.{eqb-true, eqb-false}
 use Rattle.taxa.specs.Sets.{has}
-use Rattle.taxa.proofs.Bools.{either}
-use Rattle.tree.specs.Tree.{lo, hi, rows, nodes}
-use Rattle.tree.proofs.Joins.{Joins, flat-join, joins-flip, joins-same, joins-not, joins-nodes}
+use Rattle.taxa.proofs.Bools.{either, bool-eq}
+use Rattle.tree.specs.Tree.{lo, hi, rows, nodes, touches, far}
+use Rattle.tree.proofs.Joins.{Joins, flat-join, touch-joins, joins-flip, joins-same, not-touch, joins-not, joins-nodes}
 use Rattle.tree.proofs.Colourings.{Hangs}
 use Rattle.tree.proofs.Forks.{Fork, joined}
+use Rattle.moves.proofs.RowEnds.{no-touch, touch-same}
 use Rattle.moves.proofs.Graft.{Graft, keep-parts, M-r, M-s, M-z}
 use Rattle.moves.proofs.Walk.{Walk, next, done, Inside, behind, behind-sub, no-common, inside-step, inside-x, beyond-is, at-b}
 
@@ -44,6 +45,27 @@ module _ {n : ℕ} {t t′ : List ℕ} {a w h b F N X p o r s u z M : ℕ} (k : 
   pub joins-keep : (j v y : ℕ) → Joins t j v y → has M v ≡ true → Joins t′ j v y
   joins-keep j v y jj mv = let q = same-ends j v y jj mv in joins-same t t′ j v y (q .0) (q .1) jj
 
+  -- a node of M is at the same rows before and after
+  pub touch-keep : (j v : ℕ) → has M v ≡ true → touches t′ j v ≡ touches t j v
+  touch-keep j v mv = bool-eq (touches t′ j v) (touches t j v) (back (either (eqb j F)) (either (eqb j N)) (either (eqb j X)))
+      (λ e. touch-same t t′ j v (same-ends j v (far t j v) (touch-joins t j v e) mv) ∙ e)
+    where
+      ne : (y : ℕ) → has M y ≡ false → v ≡ y → ⊥
+      ne y m d = true≢false (sym mv ∙ ap (has M) d ∙ m)
+
+      -- it is on none of the rows that change
+      off : (e x₁ x₂ : ℕ) → Joins t′ e x₁ x₂ → has M x₁ ≡ false → has M x₂ ≡ false → j ≡ e → touches t′ j v ≡ true → ⊥
+      off e x₁ x₂ je m₁ m₂ d q = no-touch t′ e v (joins-not t′ e x₁ x₂ v je (ne x₁ m₁) (ne x₂ m₂)) (ap (λ (i : ℕ). touches t′ i v) (sym d) ∙ q)
+
+      back : (eqb j F ≡ true) ⊎ (eqb j F ≡ false) → (eqb j N ≡ true) ⊎ (eqb j N ≡ false) → (eqb j X ≡ true) ⊎ (eqb j X ≡ false)
+          → touches t′ j v ≡ true → touches t j v ≡ true
+      back (inl y) y₁ y₂ e = absurd (off F r s (k .F-row) (M-r k) (M-s k) (eqb-true j F y) e)
+      back (inr y) (inl y₁) y₂ e = absurd (off N u p (k .N-row) (k .M-u) (k .hM .out) (eqb-true j N y₁) e)
+      back (inr y) (inr y₁) (inl y₂) e = absurd (off X p z (k .X-row) (k .hM .out) (M-z k) (eqb-true j X y₂) e)
+      back (inr y) (inr y₁) (inr y₂) e =
+          let c = k .keep j (eqb-false j F y) (eqb-false j N y₁) (eqb-false j X y₂) in
+          sym (touch-same t t′ j v (k .same j (c .0) (c .1) (c .2))) ∙ e
+
   fork-keep : (v x e h′ v′ q i : ℕ) → Fork n t v x e h′ v′ q i → has M v ≡ true → Fork n t′ v x e h′ v′ q i
   fork-keep v x e h′ v′ q i f mv = record {
     e-row = joins-keep x v v′ (f .e-row) mv;
@@ -58,22 +80,8 @@ module _ {n : ℕ} {t t′ : List ℕ} {a w h b F N X p o r s u z M : ℕ} (k : 
     pq = f .pq;
     inner = f .inner;
     p-lt = f .p-lt;
-    only = λ j l jx je jh. go j l jx je jh (either (eqb j F)) (either (eqb j N)) (either (eqb j X));
+    only = λ j l jx je jh. not-touch t′ j v (λ e′. no-touch t j v (f .only j l jx je jh) (sym (touch-keep j v mv) ∙ e′));
   }
-    where
-      ne : (y : ℕ) → has M y ≡ false → v ≡ y → ⊥
-      ne y m d = true≢false (sym mv ∙ ap (has M) d ∙ m)
-
-      go : (j : ℕ) → j < rows n → (j ≡ x → ⊥) → (j ≡ e → ⊥) → (j ≡ h′ → ⊥) → (eqb j F ≡ true) ⊎ (eqb j F ≡ false) → (eqb j N ≡ true) ⊎ (eqb j N ≡ false)
-          → (eqb j X ≡ true) ⊎ (eqb j X ≡ false) → (v ≡ lo t′ j → ⊥) × (v ≡ hi t′ j → ⊥)
-      go j l jx je jh (inl y) y₁ y₂ = rw (eqb-true j F y) (joins-not t′ F r s v (k .F-row) (ne r (M-r k)) (ne s (M-s k)))
-      go j l jx je jh (inr y) (inl y₁) y₂ = rw (eqb-true j N y₁) (joins-not t′ N u p v (k .N-row) (ne u (k .M-u)) (ne p (k .hM .out)))
-      go j l jx je jh (inr y) (inr y₁) (inl y₂) = rw (eqb-true j X y₂) (joins-not t′ X p z v (k .X-row) (ne p (k .hM .out)) (ne z (M-z k)))
-      go j l jx je jh (inr y) (inr y₁) (inr y₂) =
-          let c = k .keep j (eqb-false j F y) (eqb-false j N y₁) (eqb-false j X y₂) in
-          let m = k .same j (c .0) (c .1) (c .2) in
-          let o = f .only j l jx je jh in
-          (λ d. o .0 (d ∙ m .0), λ d. o .1 (d ∙ m .1))
 
   hangs-keep : (j v H : ℕ) → (j ≡ w → ⊥) × (j ≡ h → ⊥) × (j ≡ b → ⊥) → Hangs n t j v H → has H p ≡ false → has H u ≡ false → Hangs n t′ j v H
   hangs-keep j v H q hH hp hu =

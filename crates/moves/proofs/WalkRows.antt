@@ -100,7 +100,7 @@ module _ {n : ℕ} {t t′ : List ℕ} {a w h b F N X p o r s u z M : ℕ} (k : 
       let Dp : has D p ≡ false = beyond-is (k .valid) (k .b-row) (k .b-lt) P D hP hD p (k .fork .p-lt) ∙ ap not (I .p-in) in
       let is : (i : ℕ) → i < n → has D i ≡ has g i = λ i l. sym (tx i l) ∙ ap (λ (y : ℕ). has y i) (cons-head g′ g [] bs eq) in (
         record { row = b; set = D; lt = k .b-lt; parts = hD .parts; is = is },
-        record { row = X; set = D; lt = k .X-lt; parts = far-parts k D hD Dp; is = is },
+        record { row = X; set = D; lt = k .X-lt; parts = far-parts k D (hD .parts) (Dp ∙ sym (hD .out)); is = is },
       )
   group-rows (c ∷ ls) (done {g = g′} vz eb qu hD tx) bs g eq P I = absurd (nil-snoc ls bs g (cons-tail g′ c [] (ls ++ (g ∷ bs)) eq))
   group-rows [] (next {v} {e} {q} {h = h′} {i = i′} {x} {v′} {g = g′} {H} {gs = gs} eb hb f hH tx rest) bs g eq P I =

@@ -1,3 +1,5 @@
 pub mod Moves
 pub mod Groups
+pub mod Named
 pub mod Verdicts
+pub mod Cases

@@ -1,6 +1,6 @@
 -- The three moves of document 01, in its order, and what a move is refused for. Rows are written smaller end first.
-use Prim.Native.Nat.{ℕ, zero, suc, _+_, _*_, _-_, min, max}
-use mathlib.Core.Bool.{Bool, true, false, not, _&&_, _||_}
+use Prim.Native.Nat.{ℕ, _+_, _*_, _-_, min, max}
+use mathlib.Core.Bool.{Bool, true, not, _&&_, _||_}
 use mathlib.Core.List.{List, [], _∷_}
 use lib.Dec.{eqb, ltb, leb}
 use lib.ListN.{getD, set}

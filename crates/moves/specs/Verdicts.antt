@@ -1,6 +1,6 @@
 -- What the calls about a move say: the table after it, the distance over each partition, or the first refusal.
 use Prim.Native.Nat.{ℕ}
-use mathlib.Core.List.{List, [], _∷_, _++_}
+use mathlib.Core.List.{List, _++_}
 use lib.ListN.{length}
 use Rattle.tree.specs.Splits.{dist, distances}
 use Rattle.tree.specs.Refusals.{Said, judged, treeChecks, partitionChecks, partitionsChecks, roomChecks}
