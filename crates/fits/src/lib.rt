@@ -94,3 +94,74 @@ fn nni_fits(n: usize, t: &[u8], e: usize, x: usize, y: usize) -> bool
     at_both(t, x, v, y, u)
 }
 
+// Whether row b is a target for the smaller end of row a, and row c for its larger end.
+fn tbr_fits(n: usize, t: &[u8], s: &[u64], a: usize, b: usize, c: usize) -> bool
+    requires { ⌜ (Accepted n (now t)) × (Sides n (now t) (now s)) × (a < rows n) × (b < rows n) × (c < rows n) ⌝ }
+    ensures { λ r. ⌜ r ≡ (moves_spec.target n (now (t .entry)) a (tree_spec.lo (now (t .entry)) a) b && moves_spec.target n (now (t .entry)) a (tree_spec.hi (now (t .entry)) a) c) ⌝ }
+{
+    let u = table::lo(t, a);
+    if walks::is_target(n, t, s, a, u, b) {
+        let v = table::hi(t, a);
+        return walks::is_target(n, t, s, a, v, c);
+    }
+    false
+}
+
+// Whether the rows fit the move.
+fn rows_fit(n: usize, t: &[u8], s: &[u64], m: Move) -> bool
+    requires { ⌜ (Accepted n (now t)) × (Sides n (now t) (now s)) × (Usable n (moveOf m)) ⌝ }
+    ensures { λ b. ⌜ b ≡ moves_spec.fits n (now (t .entry)) (moveOf m) ⌝ }
+{
+    let kind = m.kind;
+    let a = m.first as usize;
+    let b = m.second as usize;
+    let c = m.third as usize;
+    if kind == 1 {
+        return nni_fits(n, t, a, b, c);
+    }
+    if kind == 2 {
+        return a != b;
+    }
+    tbr_fits(n, t, s, a, b, c)
+}
+
+// Whether some end moves.
+fn any_moves(n: usize, t: &[u8], s: &[u64], m: Move) -> bool
+    requires { ⌜ (Accepted n (now t)) × (Sides n (now t) (now s)) × (Usable n (moveOf m)) × (moves_spec.fits n (now t) (moveOf m) ≡ true) ⌝ }
+    ensures { λ b. ⌜ b ≡ moves_spec.anyMoves n (now (t .entry)) (moveOf m) ⌝ }
+{
+    let kind = m.kind;
+    let a = m.first as usize;
+    let b = m.second as usize;
+    let c = m.third as usize;
+    if kind == 1 {
+        return true;
+    }
+    if kind == 2 {
+        let p = walks::end_with(n, t, s, a, b);
+        return !table::touches(t, b, p);
+    }
+    let u = table::lo(t, a);
+    let v = table::hi(t, a);
+    !at_both(t, b, u, c, v)
+}
+
+// Whether the bytes of a move fit a tree whose sides are s: refusals 7 to 10.
+pub fn fit_of(n: usize, t: &[u8], s: &[u64], m: Move) -> Fitted
+    requires { ⌜ (Accepted n (now t)) × (Sides n (now t) (now s)) ⌝ }
+    ensures { λ r. ⌜ fittedSays r ≡ fitSaid n (now (t .entry)) (moveOf m) ⌝ }
+{
+    if !kind_right(m) {
+        return Fitted::Refused(Refusal::Kind);
+    }
+    if !rows_right(n, m) {
+        return Fitted::Refused(Refusal::Row);
+    }
+    if !rows_fit(n, t, s, m) {
+        return Fitted::Refused(Refusal::Misfit);
+    }
+    if !any_moves(n, t, s, m) {
+        return Fitted::Refused(Refusal::Idle);
+    }
+    Fitted::Fits
+}

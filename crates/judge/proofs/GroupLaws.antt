@@ -20,7 +20,7 @@ use Rattle.moves.proofs.GroupLists.{met-append}
 use Rattle.moves.proofs.Moved.{NniPass, SprPass, TbrPass, Passed, by-nni, by-spr, by-tbr, passed, moved-dist, rule-nni, rule-spr, rule-tbr}
 use Rattle.walks.specs.Way.{Listed, room}
 use Rattle.rules.specs.Each.{byGroups, mapped, zeros, Judges}
-use Rattle.rules.proofs.Judging.{mapped-distances}
+use Rattle.rules.proofs.Judging.{mapped-distances, distances-length}
 use Rattle.judge.specs.Promises.{Fit, Told, firstGroups, secondGroups}
 
 module _ (n : ℕ) (t : List ℕ) (m : Move) (good : Accepted n t) (fit : Pass (moveChecks n t m)) where
@@ -46,8 +46,5 @@ module _ (n : ℕ) (t : List ℕ) (m : Move) (good : Accepted n t) (fit : Pass (
       let e = mapped-distances (byGroups (eqb (m .kind) 1) (firstGroups n t m) (secondGroups n t m)) n t (moved n t m) ys all by-groups in
       record {
         count = J .count ∙ ap zeros e;
-        memory = J .memory ∙ ap₂ (λ (l : List ℕ) (k : ℕ). l ++ drop k out) e (sym (length-distances ys));
+        memory = J .memory ∙ ap₂ (λ (l : List ℕ) (k : ℕ). l ++ drop k out) e (sym (distances-length n t (moved n t m) ys));
       }
-    where
-      length-distances : (zs : List ℕ) → length (distances n t (moved n t m) zs) ≡ length zs
-      length-distances zs = distances-length n t (moved n t m) zs

@@ -68,7 +68,7 @@ fn apply_tree(n: usize, t: &mut [u8], near: &[u8], m: Move) -> Moved
     ensures { λ r. ⌜ Applies n (now (t .entry)) (moveOf m) r (now (t .exit)) ⌝ }
 {
     let s = sides::sides(n, t, near);
-    let fit = fits::fitted(n, t, &s, m);
+    let fit = fits::fit_of(n, t, &s, m);
     match fit {
         Fitted::Refused(r) => Moved::Refused(r),
         Fitted::Fits => {
@@ -184,7 +184,7 @@ fn judge_tree(n: usize, t: &[u8], near: &[u8], ys: &[u64], m: Move, out: &mut [u
         return Judged::Refused(Refusal::Partition);
     }
     let s = sides::sides(n, t, near);
-    let fit = fits::fitted(n, t, &s, m);
+    let fit = fits::fit_of(n, t, &s, m);
     match fit {
         Fitted::Refused(r) => Judged::Refused(r),
         Fitted::Fits => judge_fit(n, t, near, &s, ys, m, out),
@@ -225,7 +225,7 @@ fn one_tree(n: usize, t: &[u8], near: &[u8], y: u64, m: Move) -> Verdict
         return Verdict::Refused(Refusal::Partition);
     }
     let s = sides::sides(n, t, near);
-    let fit = fits::fitted(n, t, &s, m);
+    let fit = fits::fit_of(n, t, &s, m);
     match fit {
         Fitted::Refused(r) => Verdict::Refused(r),
         Fitted::Fits => Verdict::Distance(one_groups(n, t, near, &s, y, m)),

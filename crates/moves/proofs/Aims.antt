@@ -88,7 +88,7 @@ module _ {n : ℕ} {t : List ℕ} {a v b : ℕ} (A : Aim n t a v b) where
   way : Inner n t a v b → Found n t b v a (walk n t b (nodes n) v a)
   way w = walk-from (A .valid) (A .b-lt) v a (ahead w)
 
-  leaf-groups : v < n → groups n t a v b ≡ 2 ^ v ∷ []
+  pub leaf-groups : v < n → groups n t a v b ≡ 2 ^ v ∷ []
   unfolding groups
   leaf-groups l = rw (lt-ltb v n l)
 

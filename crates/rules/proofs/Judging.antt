@@ -82,3 +82,8 @@ pub zeros-unchanged : (n : ℕ) (t u ys : List ℕ) → zeros (distances n t u y
 unfolding zeros distances unchanged
 zeros-unchanged n t u [] = refl
 zeros-unchanged n t u (y ∷ ys) = rw (zeros-unchanged n t u ys)
+
+pub distances-length : (n : ℕ) (t u ys : List ℕ) → length (distances n t u ys) ≡ length ys
+unfolding distances
+distances-length n t u [] = refl
+distances-length n t u (y ∷ ys) = ap suc (distances-length n t u ys)

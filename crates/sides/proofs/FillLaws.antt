@@ -125,7 +125,7 @@ module _ (n : ℕ) (t : List ℕ) (e v : ℕ) (a : At n t e v) where
   stored-here s l = getD-set-same s e (side n t e) 0 (omega (arith, a .row))
 
   -- a taxon's side has no other row
-  row-one : v < n → (r : ℕ) → r < rows n → has (part n t e v) (lo t r) ≡ true → r ≡ e
+  pub row-one : v < n → (r : ℕ) → r < rows n → has (part n t e v) (lo t r) ≡ true → r ≡ e
   row-one tax r l p =
       let low : lo t r < nodes n = omega (arith, a .good .valid .order r l .0, a .good .valid .order r l .1) in
       let w : v ≡ lo t r = eqb-true v (lo t r) (sym (leaf-side n t e v (a .good .valid) tax (a .row) (a .touch) (lo t r) low) ∙ p) in

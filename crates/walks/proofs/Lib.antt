@@ -1,0 +1,3 @@
+pub mod LeadLaws
+pub mod RowLaws
+pub mod WayLaws

@@ -1,0 +1,143 @@
+-- A way step by step: what is written, and what is left of it as `walk` says. Assumes nothing.
+use mathlib.Core.Path.{_≡_, refl, sym, ap, ap₂, _∙_, subst}
+use mathlib.Core.Logic.{_⊎_, inl, inr}
+use mathlib.Core.Bool.{true, false}
+use mathlib.Core.List.{List, [], _∷_, _++_, append-assoc}
+use Prim.Native.Nat.{ℕ, suc, _+_, _-_, _^_, _≤_, _<_}
+use native.Mathlib.Numerals.{add-one}
+use native.Mathlib.Omega.{arith}
+use lib.Dec.{eqb}
+use lib.ListN.{length, getD, set, drop, length-set, length-append}
+use lib.Seq.{drop-cons, set-at}
+use borrow.Author.Tests.{eq-eqb, ne-eqb, lt-ltb, le-ltb}
+use Rattle.taxa.specs.Sets.{has, size}
+use Rattle.taxa.proofs.Sizes.{size-le, size-pos}
+use Rattle.tree.specs.Tree.{lo, rows, nodes, far, part}
+use Rattle.tree.proofs.Rounds.{part-start}
+use Rattle.tree.proofs.RowCounts.{Pair}
+use Rattle.sides.specs.Filled.{At}
+use Rattle.sides.proofs.FillLaws.{vt, v-lt}
+use Rattle.moves.specs.Moves.{target}
+use Rattle.moves.specs.Groups.{beyond, walk, groups, stayed}
+use Rattle.moves.proofs.GroupLists.{snoc}
+use Rattle.moves.proofs.Aims.{Aim, Taxon, Inner, kind, leaf-groups, inner-groups}
+use Rattle.walks.specs.Way.{room, onward, aside, Listed}
+use Rattle.walks.proofs.LeadLaws.{far-at, Turn, turn, not-taxon, leads-beyond}
+
+-- ---- a list that grows in a lent one
+listed-none : (m : ℕ) (o : List ℕ) → Listed m [] o 0 o
+listed-none m o = record { count = refl; few = omega arith; memory = refl; len = refl }
+
+listed-more : (m : ℕ) (gs o : List ℕ) (c : ℕ) (out : List ℕ) (x : ℕ) → c < m → c < length o → Listed m gs o c out → Listed m (gs ++ (x ∷ [])) o (c + 1) (set out c x)
+listed-more m gs o c out x lm lo L = record {
+  count = sym (length-append gs (x ∷ []) ∙ ap (λ (k : ℕ). k + 1) (sym (L .count)));
+  few = omega arith;
+  memory = ap (λ (r : List ℕ). set r c x) (L .memory ∙ ap (λ (r : List ℕ). gs ++ r) (drop-cons o c 0 lo))
+      ∙ set-at gs (getD o c 0) (drop (suc c) o) x c (sym (L .count)) ∙ rw (add-one c, append-assoc);
+  len = length-set out c x ∙ L .len;
+}
+
+-- ---- one step of `walk`
+module _ (n : ℕ) (t : List ℕ) (b k v e : ℕ) where
+  walk-last : eqb (onward n t b v e) b ≡ true → walk n t b (suc k) v e ≡ beyond n t v (aside n t b v e) ∷ beyond n t v b ∷ []
+  unfolding walk onward aside
+  walk-last q = rw q
+
+  walk-next : eqb (onward n t b v e) b ≡ false → walk n t b (suc k) v e ≡ beyond n t v (aside n t b v e) ∷ walk n t b k (far t (onward n t b v e) v) (onward n t b v e)
+  unfolding walk onward aside
+  walk-next q = rw q
+
+-- ---- the way from row a's end v, come to w by row e: c groups are written, and b lies ahead
+pub record Walked (n : ℕ) (t : List ℕ) (b v a : ℕ) (o out : List ℕ) (w e c : ℕ) : Type 0 where
+  pub here : At n t e w
+  pub b-lt : b < rows n
+  pub be : b ≡ e → ⊥
+  pub ahead : has (part n t e w) (lo t b) ≡ true
+  pub fuel : c + size (nodes n) (part n t e w) ≤ nodes n
+  pub gs : List ℕ
+  pub listed : Listed room gs o c out
+  pub rest : gs ++ walk n t b (nodes n - c) w e ≡ walk n t b (nodes n) v a
+
+module _ (n : ℕ) (t : List ℕ) (b v a : ℕ) (A : At n t a v) (lb : b < rows n) (aim : target n t a v b ≡ true) where
+  A′ : Aim n t a v b
+  A′ = record { valid = vt n t a v A; a-lt = A .row; b-lt = lb; a-v = A .touch; fits = aim }
+
+  pub walked-start : (o : List ℕ) → n ≤ v → Walked n t b v a o o v a 0
+  walked-start o inner = go (kind A′)
+    where
+      go : Taxon n a v b ⊎ Inner n t a v b → Walked n t b v a o o v a 0
+      go (inl w) = absurd (omega (arith, w .0))
+      go (inr w) = record {
+        here = A;
+        b-lt = lb;
+        be = w .1;
+        ahead = w .2;
+        fuel = omega (arith, size-le (nodes n) (part n t a v));
+        gs = [];
+        listed = listed-none room o;
+        rest = let z : nodes n - 0 ≡ nodes n = omega arith in ap (λ (k : ℕ). walk n t b k v a) z;
+      }
+
+  pub way-one : (o : List ℕ) (x : ℕ) → 0 < length o → v < n → x ≡ 2 ^ v → Listed room (groups n t a v b) o 1 (set o 0 x)
+  way-one o x l tax h =
+      subst (λ (gs : List ℕ). Listed room gs o 1 (set o 0 x)) (ap (λ (y : ℕ). y ∷ []) h ∙ sym (leaf-groups A′ tax)) (listed-more room [] o 0 o x (omega arith) l (listed-none room o))
+
+  pub way-all : (o out : List ℕ) (k : ℕ) → n ≤ v → Listed room (walk n t b (nodes n) v a) o k out → Listed room (groups n t a v b) o k out
+  way-all o out k inner L = subst (λ (gs : List ℕ). Listed room gs o k out) (sym (inner-groups A′ inner)) L
+
+module _ {n : ℕ} {t : List ℕ} {b v a : ℕ} {o out : List ℕ} {w e c : ℕ} (W : Walked n t b v a o out w e c) where
+  pub walked-inner : n ≤ w
+  walked-inner = not-taxon n t b e w (W .here) (W .b-lt) (W .be) (W .ahead)
+
+  pub walked-lt : c < nodes n
+  walked-lt = omega (arith, W .fuel, size-pos (nodes n) (part n t e w) w (v-lt n t e w (W .here)) (part-start n t e w))
+
+  left : nodes n - c ≡ suc (nodes n - (c + 1))
+  left = omega (arith, walked-lt)
+
+  module _ {on off : ℕ} (h : on ≡ onward n t b w e) (k : off ≡ beyond n t w (aside n t b w e)) where
+    T : Turn n t b e w on (aside n t b w e)
+    T = rw h (turn n t b e w (W .here) walked-inner (W .b-lt) (W .be) (W .ahead))
+
+    pub on-at : At n t on w
+    on-at = T .on-branch .at
+
+    -- one group more is written
+    more : length o ≡ room → Listed room (W .gs ++ (off ∷ [])) o (c + 1) (set out c off)
+    more l = listed-more room (W .gs) o c out off (omega (arith, walked-lt, W .here .good .few)) (omega (arith, walked-lt, W .here .good .few)) (W .listed)
+
+    -- with what is left of the way
+    all : (r : List ℕ) → off ∷ r ≡ walk n t b (suc (nodes n - (c + 1))) w e → (W .gs ++ (off ∷ [])) ++ r ≡ walk n t b (nodes n) v a
+    all r q = sym (snoc (W .gs) r off) ∙ ap (λ (l : List ℕ). W .gs ++ l) (q ∙ ap (λ (j : ℕ). walk n t b j w e) (sym left)) ∙ W .rest
+
+    pub walked-next : (w′ : ℕ) → length o ≡ room → (on ≡ b → ⊥) → w′ ≡ far t on w → Walked n t b v a o (set out c off) w′ on (c + 1)
+    walked-next w′ l d hw = record {
+      here = rw hw (far-at n t on w on-at);
+      b-lt = W .b-lt;
+      be = λ x. d (sym x);
+      ahead = rw hw (sym (leads-beyond n t b w on on-at (W .b-lt) (λ x. d (sym x))) ∙ T .on-leads);
+      fuel = rw hw (omega (arith, W .fuel, T .on-branch .fall));
+      gs = W .gs ++ (off ∷ []);
+      listed = more l;
+      rest = all (walk n t b (nodes n - (c + 1)) w′ on)
+          (ap₂ (λ (x : ℕ) (r : List ℕ). x ∷ r) k (ap₂ (walk n t b (nodes n - (c + 1))) (hw ∙ ap (λ (x : ℕ). far t x w) h) h)
+          ∙ sym (walk-next n t b (nodes n - (c + 1)) w e (ne-eqb (onward n t b w e) b (λ x. d (h ∙ x)))));
+    }
+
+    pub walked-last : (x : ℕ) → length o ≡ room → on ≡ b → x ≡ beyond n t w b → Listed room (walk n t b (nodes n) v a) o (c + 1 + 1) (set (set out c off) (c + 1) x)
+    walked-last x l d hx =
+        subst (λ (gs : List ℕ). Listed room gs o (c + 1 + 1) (set (set out c off) (c + 1) x))
+        (all (x ∷ []) (ap₂ (λ (y z : ℕ). y ∷ z ∷ []) k hx ∙ sym (walk-last n t b (nodes n - (c + 1)) w e (eq-eqb (onward n t b w e) b (sym h ∙ d)))))
+        (listed-more room (W .gs ++ (off ∷ [])) o (c + 1) (set out c off) x (omega (arith, walked-lt, W .here .good .few)) (omega (arith, walked-lt, W .here .good .few)) (more l))
+
+-- ---- the groups of an end that stays
+module _ (n : ℕ) (t : List ℕ) (a v : ℕ) (o : List ℕ) (l : length o ≡ room) where
+  pub stays-one : (x : ℕ) → v < n → x ≡ 2 ^ v → Listed 2 (stayed n t a v) o 1 (set o 0 x)
+  unfolding stayed
+  stays-one x tax h = rw (lt-ltb v n tax) (rw (sym h) (listed-more 2 [] o 0 o x (omega arith) (omega arith) (listed-none 2 o)))
+
+  pub stays-two : (f g x y : ℕ) → n ≤ v → Pair n t a v f g → x ≡ beyond n t v f → y ≡ beyond n t v g → Listed 2 (stayed n t a v) o 2 (set (set o 0 x) 1 y)
+  unfolding stayed
+  stays-two f g x y inner K hx hy =
+      rw (le-ltb v n inner, K .list) (rw (sym hx, sym hy) (
+      listed-more 2 (x ∷ []) o 1 (set o 0 x) y (omega arith) (omega arith) (listed-more 2 [] o 0 o x (omega arith) (omega arith) (listed-none 2 o))))

@@ -1,0 +1,44 @@
+use mathlib.Core.Path.{sym, ap, _∙_}
+use Prim.Native.Nat.{ℕ}
+use lib.ListN.{getD}
+use Rattle.taxa.specs.Sets.{less}
+use Rattle.walks.proofs.RowLaws.{from-lo, from-hi}
+use borrow.Author.Needs.{needs}
+use Rattle.walks.proofs.beyond.Statement.{statement}
+use Rattle.walks.proofs.beyond.Tie as tie
+use Rattle.walks.proofs.beyond.Reads as reads
+use Rattle.walks.proofs.beyond.Lts as lts
+use Rattle.table.proofs.lo.Reads as lo-reads
+use Rattle.taxa.proofs.full.Reads as full-reads
+use Rattle.taxa.proofs.less.Reads as less-reads
+
+mul-y : tie.Need-mul-y
+mul-y c = search needs
+
+shared-slice-read-y : tie.Need-shared-slice-read-y
+shared-slice-read-y c = search needs
+
+lo-requires : tie.Need-lo-requires
+lo-requires c κs = search needs
+
+full-requires : tie.Need-full-requires
+full-requires c κs = search needs
+
+less-requires : tie.Need-less-requires
+less-requires c κs = search needs
+
+returns : tie.Need-returns
+returns c =
+    let s = c .before .before .before .before .before .before .before in
+    c .less .ensures ∙ ap (λ (z : ℕ). less z (getD (s .args .s .now) (s .args .x) 0)) (c .before .full .ensures)
+    ∙ from-lo (s .args .n) (s .args .t .now) (s .args .s .now) (s .args .v) (s .args .x) (s .pre .0) (s .pre .1) (sym (c .before .before .before .lo .ensures) ∙ c .before .before .if1 .taken)
+
+returns-2 : tie.Need-returns-2
+returns-2 c =
+    let s = c .before .before .before .before .before in
+    from-hi (s .args .n) (s .args .t .now) (s .args .s .now) (s .args .v) (s .args .x) (s .pre .0) (s .pre .1) (λ d. c .if1 .left (c .before .lo .ensures ∙ d))
+
+pub beyond-spec : {M : Type 1} → statement M
+beyond-spec =
+    tie.close
+    (tie.spec mul-y shared-slice-read-y lo-requires full-requires less-requires returns returns-2)

@@ -1,0 +1,35 @@
+use mathlib.Core.Path.{_∙_}
+use Rattle.walks.proofs.RowLaws.{target-taxon, target-self, target-other, target-at}
+use borrow.Author.Needs.{needs}
+use Rattle.walks.proofs.is_target.Statement.{statement}
+use Rattle.walks.proofs.is_target.Tie as tie
+use Rattle.walks.proofs.is_target.Reads as reads
+use Rattle.walks.proofs.is_target.Lts as lts
+use Rattle.table.proofs.far.Reads as far-reads
+use Rattle.walks.proofs.leads.Reads as leads-reads
+
+returns : tie.Need-returns
+returns c =
+    let s = c .before .before .before in
+    target-taxon (s .args .n) (s .args .t .now) (s .args .a) (s .args .v) (s .args .b) (c .if1 .taken)
+
+returns-2 : tie.Need-returns-2
+returns-2 c =
+    let s = c .before .before .before .before in
+    target-self (s .args .n) (s .args .t .now) (s .args .a) (s .args .v) (s .args .b) (c .before .if1 .left) (c .if2 .taken)
+
+far-requires : tie.Need-far-requires
+far-requires c κs = search needs
+
+leads-requires : tie.Need-leads-requires
+leads-requires c κs =
+    let s = c .before .before .before .before .before in
+    (target-at (s .args .n) (s .args .t .now) (s .args .a) (s .args .v) (s .args .b) (s .pre .0) (c .far .result) (c .far .ensures), s .pre .1, s .pre .2)
+
+returns-3 : tie.Need-returns-3
+returns-3 c =
+    let s = c .before .before .before .before .before .before in
+    c .leads .ensures ∙ target-other (s .args .n) (s .args .t .now) (s .args .a) (s .args .v) (s .args .b) (s .pre .0) (c .before .far .result) (c .before .far .ensures) (s .pre .2) (c .before .before .before .if1 .left) (c .before .before .if2 .left)
+
+pub is-target-spec : {M : Type 1} → statement M
+is-target-spec = tie.close (tie.spec returns returns-2 far-requires leads-requires returns-3)
