@@ -1,21 +1,17 @@
 -- What the test of a move's bytes says at each test of the code. Assumes nothing.
-use mathlib.Core.Path.{_≡_, refl, sym, ap, ap₂, _∙_}
-use mathlib.Core.Logic.{_⊎_, inl, inr}
-use mathlib.Core.Bool.{Bool, true, false, not, _&&_, _||_, true≢false, false≢true, or-true, or-false}
+use mathlib.Core.Path.{_≡_, sym, ap, _∙_}
+use mathlib.Core.Bool.{Bool, true, false, not, _&&_, _||_, or-false}
 use mathlib.Core.List.{List, [], _∷_}
-use Prim.Native.Nat.{ℕ, _+_, _*_, _-_, _≤_, _<_}
+use Prim.Native.Nat.{ℕ, _*_, _-_, _≤_, _<_}
 use native.Mathlib.Omega.{arith}
-use lib.Dec.{eqb, ltb, leb}
-use lib.ListN.{length}
+use lib.Dec.{eqb, leb}
 use borrow.Author.Tests.{eq-eqb, ne-eqb, le-leb, lt-leb, leb-true, eqb-false, not-true}
-use Rattle.taxa.specs.Most.{most}
-use Rattle.taxa.specs.Sets.{pick}
-use Rattle.taxa.proofs.Bools.{either, and-left, and-right, and-false-r}
+use Rattle.taxa.proofs.Bools.{and-left, and-right, and-false-r}
 use Rattle.tree.specs.Tree.{lo, hi, rows, touches, Valid}
 use Rattle.tree.specs.Refusals.{gives, refuses, judged, Accepted}
 use Rattle.tree.proofs.Joins.{lo-touch, hi-touch}
 use Rattle.tree.proofs.RefusalLaws.{judged-next, judged-fail}
-use Rattle.moves.specs.Moves.{Move, kindRight, rowsRight, fits, anyMoves, nniFits, target, endWith, moveChecks}
+use Rattle.moves.specs.Moves.{Move, kindRight, rowsRight, fits, anyMoves, nniFits, target, endWith}
 use Rattle.sides.specs.Filled.{At}
 use Rattle.fits.specs.Bytes.{Usable, fitSaid}
 

@@ -10,7 +10,6 @@ ghost use Rattle.tree.specs.Refusals.{Accepted};
 ghost use Rattle.sides.specs.Filled.{Sides};
 ghost use Rattle.moves.specs.Moves as moves_spec;
 ghost use Rattle.fits.specs.Bytes.{moveOf, Usable, fittedSays, fitSaid};
-
 use table::Refusal;
 
 // The four bytes of a move: its kind, and three row numbers.

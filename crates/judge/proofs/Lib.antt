@@ -1,2 +1,4 @@
 pub mod GroupLaws
+pub mod KindLaws
+pub mod PartitionLaws
 pub mod SaidLaws

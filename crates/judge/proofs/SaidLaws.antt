@@ -1,13 +1,14 @@
 -- What the three calls say at each test of the code. Assumes nothing.
 use mathlib.Core.Path.{_≡_, refl, sym, ap, _∙_}
 use mathlib.Core.Bool.{true, false, _&&_}
-use mathlib.Core.List.{List, [], _∷_, _++_}
+use mathlib.Core.List.{List, [], _++_}
 use Prim.Native.Nat.{ℕ, _^_, _≤_, _<_}
 use native.Mathlib.Omega.{arith}
 use lib.Dec.{ltb, leb}
-use lib.ListN.{length, drop}
+use lib.ListN.{length}
 use borrow.Author.Tests.{le-leb, lt-leb}
 use Rattle.taxa.specs.Most.{mostPartitions}
+use Rattle.taxa.proofs.Bools.{and-right}
 use Rattle.tree.specs.Splits.{dist, distances}
 use Rattle.tree.specs.Refusals.{Said, gives, refuses, judged, treeChecks, partitionChecks, partitionsChecks, roomChecks, each, treeSaid, written, Accepted}
 use Rattle.tree.proofs.RefusalLaws.{Pass, judged-pass, judged-all, judged-next, judged-fail, refuses-more, refuses-any, accepted-pass, gives-pass}
@@ -43,6 +44,15 @@ module _ (n : ℕ) (t : List ℕ) (m : Move) where
         record { says = sym (ap done w); memory = e ∙ sym (ap (λ (s : Said (List ℕ)). tableAfter s t) w) }
 
 -- ---- a move judged for a list of partitions
+
+-- a list that is right passes its check, and each of its partitions is right
+module _ (n : ℕ) (ys : List ℕ) where
+  pub right-of : (leb 1 (length ys) && leb (length ys) mostPartitions && each (λ y. ltb y (2 ^ n)) ys) ≡ true → Pass (partitionsChecks n ys)
+  right-of h = (h, tt)
+
+  pub each-of : Pass (partitionsChecks n ys) → each (λ y. ltb y (2 ^ n)) ys ≡ true
+  each-of p = and-right (leb 1 (length ys) && leb (length ys) mostPartitions) (each (λ y. ltb y (2 ^ n)) ys) (p .0)
+
 module _ (n : ℕ) (t ys : List ℕ) (m : Move) (out : List ℕ) where
   not-judged : (r : Refusal) → judgedSaid n t ys m (length out) ≡ refuses (numberOf r) → JudgesAll n t ys m out (Judged.Refused r) out
   not-judged r h = record { says = sym (ap howManySame h); memory = sym (ap (λ (s : Said (List ℕ)). written s out) h) }

@@ -14,7 +14,6 @@ ghost use Rattle.moves.specs.Moves as moves_spec;
 ghost use Rattle.walks.specs.Way.{Listed, room};
 ghost use Rattle.fits.specs.Bytes.{moveOf};
 ghost use Rattle.judge.specs.Promises.{Applies, JudgesAll, JudgesOne, Fit, Told, firstGroups, secondGroups};
-
 use fits::Fitted;
 use fits::Move;
 use table::Checked;
@@ -92,7 +91,14 @@ pub fn apply_move(n: usize, t: &mut [u8], m: Move) -> Moved
 }
 
 // Lists the groups on the first side of a move that fits; how many.
-fn first_groups(n: usize, t: &[u8], near: &[u8], s: &[u64], m: Move, out: &mut [u64; walks::ROOM]) -> usize
+fn first_groups(
+    n: usize,
+    t: &[u8],
+    near: &[u8],
+    s: &[u64],
+    m: Move,
+    out: &mut [u64; walks::ROOM],
+) -> usize
     requires { ⌜ (Fit n (now t) (now near) (now s) (moveOf m)) × (length (now out) ≡ room) ⌝ }
     ensures { λ k. ⌜ Listed room (firstGroups n (now (t .entry)) (moveOf m)) (now (out .entry)) k (now (out .exit)) ⌝ }
 {
@@ -111,7 +117,14 @@ fn first_groups(n: usize, t: &[u8], near: &[u8], s: &[u64], m: Move, out: &mut [
 }
 
 // Lists the groups on the second side of a move that fits; how many.
-fn second_groups(n: usize, t: &[u8], near: &[u8], s: &[u64], m: Move, out: &mut [u64; walks::ROOM]) -> usize
+fn second_groups(
+    n: usize,
+    t: &[u8],
+    near: &[u8],
+    s: &[u64],
+    m: Move,
+    out: &mut [u64; walks::ROOM],
+) -> usize
     requires { ⌜ (Fit n (now t) (now near) (now s) (moveOf m)) × (length (now out) ≡ room) ⌝ }
     ensures { λ k. ⌜ Listed room (secondGroups n (now (t .entry)) (moveOf m)) (now (out .entry)) k (now (out .exit)) ⌝ }
 {
@@ -132,7 +145,15 @@ fn second_groups(n: usize, t: &[u8], near: &[u8], s: &[u64], m: Move, out: &mut 
 }
 
 // Writes the distance over each partition at the start of out; how many are the same.
-fn judge_groups(n: usize, t: &[u8], near: &[u8], s: &[u64], ys: &[u64], m: Move, out: &mut [u64]) -> usize
+fn judge_groups(
+    n: usize,
+    t: &[u8],
+    near: &[u8],
+    s: &[u64],
+    ys: &[u64],
+    m: Move,
+    out: &mut [u64],
+) -> usize
     requires { ⌜ (Fit n (now t) (now near) (now s) (moveOf m)) × (each (λ y. ltb y (2 ^ n)) (now ys) ≡ true) × (length (now ys) ≤ length (now out)) ⌝ }
     ensures { λ r. ⌜ Told (distances n (now (t .entry)) (moves_spec.moved n (now (t .entry)) (moveOf m)) (now (ys .entry))) (now (out .entry)) r (now (out .exit)) ⌝ }
 {
@@ -165,7 +186,15 @@ fn partitions_right(n: usize, ys: &[u64]) -> bool
 }
 
 // The judgement of a tree's move that fits, where the partitions are right: refusal 11.
-fn judge_fit(n: usize, t: &[u8], near: &[u8], s: &[u64], ys: &[u64], m: Move, out: &mut [u64]) -> Judged
+fn judge_fit(
+    n: usize,
+    t: &[u8],
+    near: &[u8],
+    s: &[u64],
+    ys: &[u64],
+    m: Move,
+    out: &mut [u64],
+) -> Judged
     requires { ⌜ (Fit n (now t) (now near) (now s) (moveOf m)) × (Pass (partitionsChecks n (now ys))) ⌝ }
     ensures { λ r. ⌜ JudgesAll n (now (t .entry)) (now (ys .entry)) (moveOf m) (now (out .entry)) r (now (out .exit)) ⌝ }
 {

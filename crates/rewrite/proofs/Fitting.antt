@@ -7,7 +7,7 @@ use native.Mathlib.Omega.{arith}
 use Rattle.taxa.specs.Most.{most}
 use Rattle.taxa.specs.Sets.{pick}
 use Rattle.taxa.proofs.Bools.{not-both}
-use Rattle.tree.specs.Tree.{lo, hi, rows, nodes, touches, far}
+use Rattle.tree.specs.Tree.{lo, hi, nodes, touches, far}
 use Rattle.tree.proofs.Joins.{lo-touch, hi-touch, far-lo, touch-node}
 use Rattle.tree.proofs.RowCounts.{Pair, pair-of}
 use Rattle.near.specs.Near.{Near, otherFirst, otherSecond}

@@ -1,4 +1,5 @@
-use mathlib.Core.Path.{_∙_, sym, ap, ap₂}
+-- `fits::any_moves` meets its contract. Assumes nothing.
+use mathlib.Core.Path.{_∙_, ap, ap₂}
 use mathlib.Core.Bool.{not, _&&_}
 use Prim.Native.Nat.{ℕ}
 use Rattle.tree.specs.Tree.{touches}
@@ -8,13 +9,6 @@ use native.Mathlib.Omega.{arith}
 use borrow.Author.Needs.{needs}
 use Rattle.fits.proofs.any_moves.Statement.{statement}
 use Rattle.fits.proofs.any_moves.Tie as tie
-use Rattle.fits.proofs.any_moves.Reads as reads
-use Rattle.fits.proofs.any_moves.Lts as lts
-use Rattle.fits.proofs.at_both.Reads as at-both-reads
-use Rattle.table.proofs.hi.Reads as hi-reads
-use Rattle.table.proofs.lo.Reads as lo-reads
-use Rattle.table.proofs.touches.Reads as touches-reads
-use Rattle.walks.proofs.end_with.Reads as end-with-reads
 
 cast-a : tie.Need-cast-a
 cast-a c = search needs

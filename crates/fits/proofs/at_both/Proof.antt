@@ -1,11 +1,9 @@
+-- `fits::at_both` meets its contract. Assumes nothing.
 use mathlib.Core.Path.{sym, ap, _∙_}
 use mathlib.Core.Bool.{Bool, _&&_}
 use Rattle.tree.specs.Tree as tree-spec
-use borrow.Author.Needs.{needs}
 use Rattle.fits.proofs.at_both.Statement.{statement}
 use Rattle.fits.proofs.at_both.Tie as tie
-use Rattle.fits.proofs.at_both.Reads as reads
-use Rattle.fits.proofs.at_both.Lts as lts
 
 touches-requires : tie.Need-touches-requires
 touches-requires c κs =

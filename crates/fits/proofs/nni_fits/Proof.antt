@@ -1,17 +1,12 @@
-use mathlib.Core.Path.{sym, ap, ap₂, _∙_, subst}
-use mathlib.Core.Bool.{Bool, _&&_}
-use Prim.Native.Nat.{ℕ, _<_}
+-- `fits::nni_fits` meets its contract. Assumes nothing.
+use mathlib.Core.Path.{sym, ap₂, _∙_}
+use mathlib.Core.Bool.{_&&_}
+use Prim.Native.Nat.{ℕ}
 use native.Mathlib.Omega.{arith}
 use Rattle.tree.specs.Tree.{touches}
 use Rattle.fits.proofs.FitLaws.{nni-outer, nni-x, nni-y, nni-one, nni-other}
-use borrow.Author.Needs.{needs}
 use Rattle.fits.proofs.nni_fits.Statement.{statement}
 use Rattle.fits.proofs.nni_fits.Tie as tie
-use Rattle.fits.proofs.nni_fits.Reads as reads
-use Rattle.fits.proofs.nni_fits.Lts as lts
-use Rattle.fits.proofs.at_both.Reads as at-both-reads
-use Rattle.table.proofs.hi.Reads as hi-reads
-use Rattle.table.proofs.lo.Reads as lo-reads
 
 lo-requires : tie.Need-lo-requires
 lo-requires c κs =

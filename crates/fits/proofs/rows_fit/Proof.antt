@@ -1,3 +1,4 @@
+-- `fits::rows_fit` meets its contract. Assumes nothing.
 use mathlib.Core.Path.{_∙_}
 use Rattle.fits.proofs.FitLaws.{fits-1, fits-2, fits-3, first-row, second-row, third-row}
 use Rattle.fits.specs.Bytes.{moveOf}
@@ -5,10 +6,6 @@ use native.Mathlib.Omega.{arith}
 use borrow.Author.Needs.{needs}
 use Rattle.fits.proofs.rows_fit.Statement.{statement}
 use Rattle.fits.proofs.rows_fit.Tie as tie
-use Rattle.fits.proofs.rows_fit.Reads as reads
-use Rattle.fits.proofs.rows_fit.Lts as lts
-use Rattle.fits.proofs.nni_fits.Reads as nni-fits-reads
-use Rattle.fits.proofs.tbr_fits.Reads as tbr-fits-reads
 
 cast-a : tie.Need-cast-a
 cast-a c = search needs

@@ -1,10 +1,9 @@
+-- `fits::rows_right` meets its contract. Assumes nothing.
 use Rattle.fits.specs.Bytes.{moveOf}
 use Rattle.fits.proofs.FitLaws.{first-high, second-high, two-rows, three-rows}
 use borrow.Author.Needs.{needs}
 use Rattle.fits.proofs.rows_right.Statement.{statement}
 use Rattle.fits.proofs.rows_right.Tie as tie
-use Rattle.fits.proofs.rows_right.Reads as reads
-use Rattle.fits.proofs.rows_right.Lts as lts
 
 mul-top : tie.Need-mul-top
 mul-top c = search needs

@@ -1,3 +1,4 @@
+-- `fits::tbr_fits` meets its contract. Assumes nothing.
 use mathlib.Core.Path.{sym, ap, ap₂, _∙_}
 use mathlib.Core.Bool.{Bool, _&&_}
 use Rattle.tree.specs.Tree.{hi}
@@ -7,11 +8,6 @@ use Rattle.fits.proofs.FitLaws.{lo-end, hi-end}
 use borrow.Author.Needs.{needs}
 use Rattle.fits.proofs.tbr_fits.Statement.{statement}
 use Rattle.fits.proofs.tbr_fits.Tie as tie
-use Rattle.fits.proofs.tbr_fits.Reads as reads
-use Rattle.fits.proofs.tbr_fits.Lts as lts
-use Rattle.table.proofs.hi.Reads as hi-reads
-use Rattle.table.proofs.lo.Reads as lo-reads
-use Rattle.walks.proofs.is_target.Reads as is-target-reads
 
 lo-requires : tie.Need-lo-requires
 lo-requires c κs = search needs

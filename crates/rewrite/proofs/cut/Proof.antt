@@ -1,3 +1,4 @@
+-- `rewrite::cut` meets its contract. Assumes nothing.
 use native.Mathlib.Omega.{arith}
 use Rattle.rewrite.proofs.Fitting.{low-aims, high-aims, cut-is}
 use borrow.Author.Needs.{needs}

@@ -1,3 +1,4 @@
+-- `rewrite::exchange` meets its contract. Assumes nothing.
 use native.Mathlib.Omega.{arith}
 use Rattle.rewrite.proofs.Edits.{far-byte, end-byte, exchange-is}
 use borrow.Author.Needs.{needs}

@@ -1,3 +1,4 @@
+-- `rewrite::graft` meets its contract. Assumes nothing.
 use mathlib.Core.Path.{ap, _∙_}
 use Prim.Native.Nat.{ℕ}
 use Rattle.moves.specs.Moves.{moveEnd, spr}

@@ -1,3 +1,4 @@
+-- `rewrite::move_end` meets its contract. Assumes nothing.
 use mathlib.Core.Path.{sym, _∙_}
 use native.Mathlib.Omega.{arith}
 use Rattle.moves.proofs.SprMove.{moveEnd-eq}

@@ -1,3 +1,4 @@
+-- `rewrite::put` meets its contract. Assumes nothing.
 use Rattle.rewrite.proofs.Edits.{put-up, put-down}
 use borrow.Author.Needs.{needs}
 use Rattle.rewrite.proofs.put.Statement.{statement}

@@ -1,3 +1,4 @@
+-- `rewrite::put_end` meets its contract. Assumes nothing.
 use native.Mathlib.Omega.{arith}
 use Prim.Native.Nat.{_+_, _*_}
 use Rattle.rewrite.proofs.Edits.{far-byte, end-is}

@@ -1,3 +1,4 @@
+-- `rewrite::stay_or_move` meets its contract. Assumes nothing.
 use mathlib.Core.Path.{sym, _∙_}
 use native.Mathlib.Omega.{arith}
 use Rattle.rewrite.proofs.Edits.{stays, goes}

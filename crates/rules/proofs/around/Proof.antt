@@ -1,3 +1,4 @@
+-- `rules::around` meets its contract. Assumes nothing.
 use mathlib.Core.Path.{sym, ap}
 use mathlib.Core.Bool.{Bool}
 use Prim.Native.Nat.{_+_}
@@ -6,8 +7,6 @@ use Rattle.taxa.specs.Sets.{pick}
 use borrow.Author.Needs.{needs}
 use Rattle.rules.proofs.around.Statement.{statement}
 use Rattle.rules.proofs.around.Tie as tie
-use Rattle.rules.proofs.around.Reads as reads
-use Rattle.rules.proofs.around.Lts as lts
 
 add-if1 : tie.Need-add-if1
 add-if1 c = search needs

@@ -1,5 +1,5 @@
-use mathlib.Core.Path.{sym, ap, ap₂, _∙_}
-use mathlib.Core.Bool.{Bool}
+-- `rules::distance` meets its contract. Assumes nothing.
+use mathlib.Core.Path.{ap₂, _∙_}
 use Prim.Native.Nat.{ℕ, _+_}
 use native.Mathlib.Omega.{arith}
 use lib.Dec.{eqb}
@@ -9,11 +9,6 @@ use Rattle.moves.proofs.GroupLists.{met-le}
 use borrow.Author.Needs.{needs}
 use Rattle.rules.proofs.distance.Statement.{statement}
 use Rattle.rules.proofs.distance.Tie as tie
-use Rattle.rules.proofs.distance.Reads as reads
-use Rattle.rules.proofs.distance.Lts as lts
-use Rattle.rules.proofs.around.Reads as around-reads
-use Rattle.rules.proofs.count_met.Reads as count-met-reads
-use Rattle.rules.proofs.rule.Reads as rule-reads
 
 count-met-requires : tie.Need-count-met-requires
 count-met-requires c κs = search needs

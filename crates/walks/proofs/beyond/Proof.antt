@@ -1,3 +1,4 @@
+-- `walks::beyond` meets its contract. Assumes nothing.
 use mathlib.Core.Path.{sym, ap, _∙_}
 use Prim.Native.Nat.{ℕ}
 use lib.ListN.{getD}
@@ -6,11 +7,6 @@ use Rattle.walks.proofs.RowLaws.{from-lo, from-hi}
 use borrow.Author.Needs.{needs}
 use Rattle.walks.proofs.beyond.Statement.{statement}
 use Rattle.walks.proofs.beyond.Tie as tie
-use Rattle.walks.proofs.beyond.Reads as reads
-use Rattle.walks.proofs.beyond.Lts as lts
-use Rattle.table.proofs.lo.Reads as lo-reads
-use Rattle.taxa.proofs.full.Reads as full-reads
-use Rattle.taxa.proofs.less.Reads as less-reads
 
 mul-y : tie.Need-mul-y
 mul-y c = search needs

@@ -1,14 +1,10 @@
+-- `walks::end_with` meets its contract. Assumes nothing.
 use mathlib.Core.Path.{sym, _∙_}
 use mathlib.Core.Bool.{true, false}
 use Rattle.walks.proofs.RowLaws.{hi-at, end-is}
 use borrow.Author.Needs.{needs}
 use Rattle.walks.proofs.end_with.Statement.{statement}
 use Rattle.walks.proofs.end_with.Tie as tie
-use Rattle.walks.proofs.end_with.Reads as reads
-use Rattle.walks.proofs.end_with.Lts as lts
-use Rattle.table.proofs.hi.Reads as hi-reads
-use Rattle.table.proofs.lo.Reads as lo-reads
-use Rattle.walks.proofs.leads.Reads as leads-reads
 
 lo-requires : tie.Need-lo-requires
 lo-requires c κs = search needs

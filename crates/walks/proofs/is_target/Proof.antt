@@ -1,12 +1,9 @@
+-- `walks::is_target` meets its contract. Assumes nothing.
 use mathlib.Core.Path.{_∙_}
 use Rattle.walks.proofs.RowLaws.{target-taxon, target-self, target-other, target-at}
 use borrow.Author.Needs.{needs}
 use Rattle.walks.proofs.is_target.Statement.{statement}
 use Rattle.walks.proofs.is_target.Tie as tie
-use Rattle.walks.proofs.is_target.Reads as reads
-use Rattle.walks.proofs.is_target.Lts as lts
-use Rattle.table.proofs.far.Reads as far-reads
-use Rattle.walks.proofs.leads.Reads as leads-reads
 
 returns : tie.Need-returns
 returns c =

@@ -1,10 +1,8 @@
+-- `walks::leads` meets its contract. Assumes nothing.
 use Rattle.walks.proofs.RowLaws.{leads-self, leads-none, leads-some}
 use borrow.Author.Needs.{needs}
 use Rattle.walks.proofs.leads.Statement.{statement}
 use Rattle.walks.proofs.leads.Tie as tie
-use Rattle.walks.proofs.leads.Reads as reads
-use Rattle.walks.proofs.leads.Lts as lts
-use Rattle.walks.proofs.beyond.Reads as beyond-reads
 
 returns : tie.Need-returns
 returns c =

@@ -1,3 +1,4 @@
+-- `walks::pace` meets its contract. Assumes nothing.
 use mathlib.Core.Path.{sym, ap, _∙_}
 use mathlib.Core.Bool.{true, false}
 use native.Mathlib.Omega.{arith}
@@ -6,11 +7,6 @@ use Rattle.moves.specs.Groups.{beyond}
 use Rattle.walks.proofs.LeadLaws.{pair-f, pair-g, on-is, off-is}
 use Rattle.walks.proofs.pace.Statement.{statement}
 use Rattle.walks.proofs.pace.Tie as tie
-use Rattle.walks.proofs.pace.Reads as reads
-use Rattle.walks.proofs.pace.Lts as lts
-use Rattle.near.proofs.others.Reads as others-reads
-use Rattle.walks.proofs.beyond.Reads as beyond-reads
-use Rattle.walks.proofs.leads.Reads as leads-reads
 
 others-requires : tie.Need-others-requires
 others-requires c κs =

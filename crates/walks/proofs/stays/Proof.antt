@@ -1,3 +1,4 @@
+-- `walks::stays` meets its contract. Assumes nothing.
 use native.Mathlib.Omega.{arith}
 use Rattle.sides.proofs.FillLaws.{v-lt, two}
 use Rattle.walks.proofs.LeadLaws.{pair-f, pair-g}
@@ -5,11 +6,6 @@ use Rattle.walks.proofs.WayLaws.{stays-one, stays-two}
 use borrow.Author.Needs.{needs}
 use Rattle.walks.proofs.stays.Statement.{statement}
 use Rattle.walks.proofs.stays.Tie as tie
-use Rattle.walks.proofs.stays.Reads as reads
-use Rattle.walks.proofs.stays.Lts as lts
-use Rattle.near.proofs.others.Reads as others-reads
-use Rattle.taxa.proofs.only.Reads as only-reads
-use Rattle.walks.proofs.beyond.Reads as beyond-reads
 
 only-requires : tie.Need-only-requires
 only-requires c κs = search needs

@@ -1,3 +1,4 @@
+-- `walks::way` meets its contract. Assumes nothing.
 use mathlib.Core.Path.{subst}
 use Prim.Native.Nat.{ℕ, _-_}
 use native.Mathlib.Omega.{arith}
@@ -7,12 +8,6 @@ use Rattle.walks.proofs.WayLaws.{Walked, walked-start, walked-inner, wa
 use borrow.Author.Needs.{needs}
 use Rattle.walks.proofs.way.Statement.{statement}
 use Rattle.walks.proofs.way.Tie as tie
-use Rattle.walks.proofs.way.Reads as reads
-use Rattle.walks.proofs.way.Lts as lts
-use Rattle.table.proofs.far.Reads as far-reads
-use Rattle.taxa.proofs.only.Reads as only-reads
-use Rattle.walks.proofs.beyond.Reads as beyond-reads
-use Rattle.walks.proofs.pace.Reads as pace-reads
 
 abbrev Inv-loop : tie.InvT-loop
 Inv-loop n t near s a v b out₀ w₀ e₀ c₀ out w e c =

@@ -1,0 +1,51 @@
+-- `judge::apply_move` meets its contract. Assumes nothing.
+use Rattle.near.proofs.LookLaws.{found-tree-is, found-refused}
+use Rattle.fits.specs.Bytes.{moveOf}
+use Rattle.judge.proofs.SaidLaws.{moves-no-tree}
+use borrow.Author.Needs.{needs}
+use Rattle.judge.proofs.apply_move.Statement.{statement}
+use Rattle.judge.proofs.apply_move.Tie as tie
+
+look-requires : tie.Need-look-requires
+look-requires c κs = search needs
+
+enum-known-answer : tie.Need-enum-known-answer
+enum-known-answer c = search needs
+
+enum-told : tie.Need-enum-told
+enum-told c = search needs
+
+slice-aggregate-apply-tree : tie.Need-slice-aggregate-apply-tree
+slice-aggregate-apply-tree c = search needs
+
+apply-tree-requires : tie.Need-apply-tree-requires
+apply-tree-requires c κs =
+    found-tree-is (c .before .before .before .before .before .before .before .before .args .n) (c .before .before .before .before .before .before .before .before .args .t .now) _ _ (c .before .before .before .before .before .look .ensures) (c .before .before .enum-told .given .1)
+
+same-length : tie.Need-same-length
+same-length c = search needs
+
+returns : tie.Need-returns
+returns c =
+    moves-no-tree (c .before .before .before .before .before .before .before .args .n) (c .before .before .before .before .before .before .before .args .t .now) (moveOf (c .before .before .before .before .before .before .before .args .m)) _ (found-refused (c .before .before .before .before .before .before .before .args .n) (c .before .before .before .before .before .before .before .args .t .now) _ _ _ (c .before .before .before .before .look .ensures) (c .before .answer .given .1))
+
+same-length-2 : tie.Need-same-length-2
+same-length-2 c = search needs
+
+returns-2 : tie.Need-returns-2
+returns-2 c =
+    c .before .before .apply-tree .ensures
+
+pub apply-move-spec : {M : Type 1} → statement M
+apply-move-spec =
+    tie.close
+    (tie.spec
+    look-requires
+    enum-known-answer
+    enum-told
+    slice-aggregate-apply-tree
+    apply-tree-requires
+    same-length
+    returns
+    same-length-2
+    returns-2)

@@ -1,0 +1,47 @@
+-- `judge::judge_move` meets its contract. Assumes nothing.
+use Rattle.near.proofs.LookLaws.{found-tree-is, found-refused}
+use Rattle.fits.specs.Bytes.{moveOf}
+use Rattle.judge.proofs.SaidLaws.{judges-no-tree}
+use borrow.Author.Needs.{needs}
+use Rattle.judge.proofs.judge_move.Statement.{statement}
+use Rattle.judge.proofs.judge_move.Tie as tie
+
+look-requires : tie.Need-look-requires
+look-requires c κs = search needs
+
+enum-known-answer : tie.Need-enum-known-answer
+enum-known-answer c = search needs
+
+enum-told : tie.Need-enum-told
+enum-told c = search needs
+
+slice-aggregate-judge-tree : tie.Need-slice-aggregate-judge-tree
+slice-aggregate-judge-tree c = search needs
+
+judge-tree-requires : tie.Need-judge-tree-requires
+judge-tree-requires c κs =
+    found-tree-is (c .before .before .before .before .before .before .before .before .before .args .n) (c .before .before .before .before .before .before .before .before .before .args .t .now) _ _ (c .before .before .before .before .before .look .ensures) (c .before .before .enum-told .given .1)
+
+returns : tie.Need-returns
+returns c =
+    judges-no-tree (c .before .before .before .before .before .before .before .before .args .n) (c .before .before .before .before .before .before .before .before .args .t .now) (c .before .before .before .before .before .before .before .before .args .ys .now) (moveOf (c .before .before .before .before .before .before .before .before .args .m)) (c .before .before .before .before .before .before .before .before .args .out .now) _ (found-refused (c .before .before .before .before .before .before .before .before .args .n) (c .before .before .before .before .before .before .before .before .args .t .now) _ _ _ (c .before .before .before .before .look .ensures) (c .before .answer .given .1))
+
+same-length : tie.Need-same-length
+same-length c = search needs
+
+returns-2 : tie.Need-returns-2
+returns-2 c =
+    c .before .before .judge-tree .ensures
+
+pub judge-move-spec : {M : Type 1} → statement M
+judge-move-spec =
+    tie.close
+    (tie.spec
+    look-requires
+    enum-known-answer
+    enum-told
+    slice-aggregate-judge-tree
+    judge-tree-requires
+    returns
+    same-length
+    returns-2)
