@@ -6,9 +6,9 @@ use Prim.Native.Nat.{ℕ, _^_, _≤_, _<_}
 use native.Mathlib.Omega.{arith}
 use lib.Dec.{ltb, leb}
 use lib.ListN.{length}
-use borrow.Author.Tests.{le-leb, lt-leb}
+use borrow.Author.Tests.{le-leb, lt-leb, leb-true}
 use Rattle.taxa.specs.Most.{mostPartitions}
-use Rattle.taxa.proofs.Bools.{and-right}
+use Rattle.taxa.proofs.Bools.{and-left, and-right}
 use Rattle.tree.specs.Splits.{dist, distances}
 use Rattle.tree.specs.Refusals.{Said, gives, refuses, judged, treeChecks, partitionChecks, partitionsChecks, roomChecks, each, treeSaid, written, Accepted}
 use Rattle.tree.proofs.RefusalLaws.{Pass, judged-pass, judged-all, judged-next, judged-fail, refuses-more, refuses-any, accepted-pass, gives-pass}
@@ -49,6 +49,11 @@ module _ (n : ℕ) (t : List ℕ) (m : Move) where
 module _ (n : ℕ) (ys : List ℕ) where
   pub right-of : (leb 1 (length ys) && leb (length ys) mostPartitions && each (λ y. ltb y (2 ^ n)) ys) ≡ true → Pass (partitionsChecks n ys)
   right-of h = (h, tt)
+
+  pub few-of : Pass (partitionsChecks n ys) → length ys ≤ mostPartitions
+  few-of p =
+      leb-true (length ys) mostPartitions
+      (and-right (leb 1 (length ys)) (leb (length ys) mostPartitions) (and-left (leb 1 (length ys) && leb (length ys) mostPartitions) (each (λ y. ltb y (2 ^ n)) ys) (p .0)))
 
   pub each-of : Pass (partitionsChecks n ys) → each (λ y. ltb y (2 ^ n)) ys ≡ true
   each-of p = and-right (leb 1 (length ys) && leb (length ys) mostPartitions) (each (λ y. ltb y (2 ^ n)) ys) (p .0)

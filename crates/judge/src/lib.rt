@@ -20,7 +20,7 @@ use table::Checked;
 use table::Refusal;
 
 // The most partitions on a list.
-const PARTITIONS: usize = 64;
+pub const PARTITIONS: usize = 64;
 
 // The answer of a move alone.
 pub enum Moved {
@@ -41,7 +41,7 @@ pub enum Verdict {
 }
 
 // Rewrites the rows of a move that fits.
-fn rewrite_rows(n: usize, t: &mut [u8], near: &[u8], s: &[u64], m: Move)
+pub fn rewrite_rows(n: usize, t: &mut [u8], near: &[u8], s: &[u64], m: Move)
     requires { ⌜ Fit n (now t) (now near) (now s) (moveOf m) ⌝ }
     ensures { λ _. ⌜ now (t .exit) ≡ moves_spec.moved n (now (t .entry)) (moveOf m) ⌝ }
 {
@@ -145,7 +145,7 @@ fn second_groups(
 }
 
 // Writes the distance over each partition at the start of out; how many are the same.
-fn judge_groups(
+pub fn judge_groups(
     n: usize,
     t: &[u8],
     near: &[u8],
@@ -165,7 +165,7 @@ fn judge_groups(
 }
 
 // Whether a list of partitions has one at least and not too many, and none names a taxon n or above.
-fn partitions_right(n: usize, ys: &[u64]) -> bool
+pub fn partitions_right(n: usize, ys: &[u64]) -> bool
     requires { ⌜ (4 ≤ n) × (n ≤ most) ⌝ }
     ensures { λ b. ⌜ b ≡ (leb 1 (length (now (ys .entry))) && leb (length (now (ys .entry))) mostPartitions && each (λ y. ltb y (2 ^ n)) (now (ys .entry))) ⌝ }
 {

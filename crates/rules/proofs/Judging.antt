@@ -40,7 +40,8 @@ unfolding zeros
 zeros-more [] x = omega arith
 zeros-more (z ∷ xs) x = omega (arith, zeros-more xs x)
 
-zeros-le : (xs : List ℕ) → zeros xs ≤ length xs
+-- how many are 0 is no more than all
+pub zeros-le : (xs : List ℕ) → zeros xs ≤ length xs
 unfolding zeros
 zeros-le [] = omega arith
 zeros-le (x ∷ xs) = omega (arith, zeros-le xs, tally-one (eqb x 0))

@@ -1,0 +1,7 @@
+pub mod FieldSteps
+pub mod ReadLaws
+pub mod RunLaws
+pub mod SoundLaws
+pub mod StateLaws
+pub mod StepLaws
+pub mod Turns

@@ -1,0 +1,170 @@
+-- Everything known in a job is sound, and no step's lines are more than the lent memory holds. Assumes nothing.
+use mathlib.Core.Path.{_≡_, refl, sym, ap, subst}
+use mathlib.Core.Bool.{Bool, true, _&&_}
+use mathlib.Core.List.{List, [], _∷_, _++_}
+use Prim.Native.Nat.{ℕ, _+_, _*_, _^_, _≤_, _<_}
+use native.Mathlib.Omega.{arith}
+use lib.Dec.{ltb, leb}
+use lib.ListN.{length, length-append}
+use borrow.Author.Tests.{eqb-true, ltb-true, leb-true, le-leb}
+use Rattle.taxa.specs.Most.{most, mostPartitions}
+use Rattle.taxa.specs.Sets.{size}
+use Rattle.taxa.proofs.Bools.{and-left, and-right, and-both}
+use Rattle.taxa.proofs.Sizes.{size-le}
+use Rattle.tree.specs.Tree.{rows}
+use Rattle.tree.specs.Splits.{splits, dist, distances}
+use Rattle.tree.specs.Refusals.{each, tableChecks, Accepted}
+use Rattle.tree.proofs.Lists.{lacks-most}
+use Rattle.tree.proofs.Members.{members-count, members-is}
+use Rattle.tree.proofs.RefusalLaws.{Pass, pass-accepted}
+use Rattle.moves.specs.Moves.{Move, moved, moveChecks}
+use Rattle.moves.proofs.Moved.{moved-accepted}
+use Rattle.rules.specs.Each.{zeros}
+use Rattle.rules.proofs.Judging.{distances-length, zeros-le}
+use Rattle.text.specs.Lines.{verdictLine}
+use Rattle.text.proofs.Widths.{verdict-few, saved-few}
+use Rattle.fields.specs.Fields.{complete}
+use Rattle.listing.specs.Listing.{verdictLines, moveLines}
+use Rattle.listing.proofs.LineLaws.{lines-length}
+use Rattle.job.specs.Job.{Known, nothing, next, withTaxa, withTable, withPartition, withMove, field, longest}
+use Rattle.job.specs.Runs.{enough}
+use Rattle.job.specs.Sound.{Stage, at-start, at-table, past-table, Sound}
+use Rattle.job.proofs.Turns.{Turn, read-taxa, read-table, read-partition, read-move, turn}
+
+-- ---- what each stage says
+
+-- Between n and the table n is right.
+count-right : (k : Known) → k .at ≡ 4 → Stage k → (leb 4 (k .taxa) && leb (k .taxa) most) ≡ true
+count-right k a (at-start e) = let z = ap (λ (x : Known). x .at) e in absurd (omega arith)
+count-right k a (at-table b big few t p m) = and-both (leb 4 (k .taxa)) (leb (k .taxa) most) (le-leb 4 (k .taxa) big) (le-leb (k .taxa) most few)
+count-right k a (past-table l t p) = absurd (omega arith)
+
+-- After the table it is accepted, and each partition is right.
+past : (k : Known) → (k .at ≡ 0 → ⊥) → (k .at ≡ 4 → ⊥) → Stage k → (4 < k .at) × Accepted (k .taxa) (k .table) × (each (λ y. ltb y (2 ^ k .taxa)) (k .parts) ≡ true)
+past k a b (at-start e) = absurd (a (ap (λ (x : Known). x .at) e))
+past k a b (at-table e big few t p m) = absurd (b e)
+past k a b (past-table l t p) = (l, t, p)
+
+-- A test that holds of each number on a list and of one more holds of each with it.
+each-more : (f : ℕ → Bool) (ys : List ℕ) (y : ℕ) → each f ys ≡ true → f y ≡ true → each f (ys ++ y ∷ []) ≡ true
+unfolding each
+each-more f [] y h e = and-both (f y) true e refl
+each-more f (x ∷ ys) y h e = and-both (f x) (each f (ys ++ y ∷ [])) (and-left (f x) (each f ys) h) (each-more f ys y (and-right (f x) (each f ys) h) e)
+
+-- ---- a step keeps it sound
+
+-- Before the first field all is sound.
+pub sound-start : (job : List ℕ) → Sound job nothing
+sound-start job = record { within = omega arith; few-moves = omega arith; few-parts = omega arith; stage = at-start refl }
+
+module _ (job : List ℕ) (k : Known) (s : Sound job k) where
+  -- After n.
+  sound-taxa : (n : ℕ) → k .at ≡ 0 → complete job (k .at) 1 ≡ true → (leb 4 n && leb n most) ≡ true → Sound job (withTaxa (k .at) n)
+  sound-taxa n a c b = record {
+    within = omega (arith, leb-true (k .at + 3 + 1) (length job) c);
+    few-moves = omega arith;
+    few-parts = omega arith;
+    stage = at-table (omega arith) (leb-true 4 n (and-left (leb 4 n) (leb n most) b)) (leb-true n most (and-right (leb 4 n) (leb n most) b)) refl refl refl;
+  }
+
+  -- After the table.
+  sound-table : (t : List ℕ) → k .at ≡ 4 → complete job (k .at) (2 * rows (k .taxa)) ≡ true → Pass (tableChecks (k .taxa) t) → Sound job (withTable (k .at) (k .taxa) t)
+  unfolding each
+  sound-table t a c p = record {
+    within = omega (arith, leb-true (k .at + 3 + 2 * rows (k .taxa)) (length job) c, eqb-true (length t) (2 * rows (k .taxa)) (p .0));
+    few-moves = omega arith;
+    few-parts = omega arith;
+    stage = past-table (omega arith) (pass-accepted (k .taxa) t (count-right k a (s .stage), p)) refl;
+  }
+
+  -- After a partition.
+  sound-partition : (y : ℕ) → (k .at ≡ 0 → ⊥) → (k .at ≡ 4 → ⊥) → length (k .parts) < mostPartitions → complete job (k .at) 8 ≡ true → ltb y (2 ^ k .taxa) ≡ true → Sound job (withPartition k y)
+  sound-partition y a b few c r = record {
+    within = omega (arith, leb-true (k .at + 3 + 8) (length job) c);
+    few-moves = omega (arith, s .few-moves);
+    few-parts = omega (arith, length-append (k .parts) (y ∷ []));
+    stage = past-table (omega (arith, past k a b (s .stage) .0)) (past k a b (s .stage) .1) (each-more (λ x. ltb x (2 ^ k .taxa)) (k .parts) y (past k a b (s .stage) .2) r);
+  }
+
+  -- After a move.
+  sound-move : (m : Move) → (k .at ≡ 0 → ⊥) → (k .at ≡ 4 → ⊥) → complete job (k .at) 4 ≡ true → Pass (moveChecks (k .taxa) (k .table) m) → Sound job (withMove k m)
+  sound-move m a b c p = record {
+    within = omega (arith, leb-true (k .at + 3 + 4) (length job) c);
+    few-moves = omega (arith, s .few-moves);
+    few-parts = s .few-parts;
+    stage = past-table (omega (arith, past k a b (s .stage) .0)) (moved-accepted (k .taxa) (k .table) m (past k a b (s .stage) .1) p) (past k a b (s .stage) .2);
+  }
+
+  -- A step past a field goes on in the job, and what is known after it is sound.
+  pub sound-next : (k′ : Known) (ls : List ℕ) → field job k ≡ next k′ ls → Sound job k′ × (k .at < k′ .at)
+  sound-next k′ ls h = go (turn job k k′ ls h)
+    where
+      to : (q : Known) → k′ ≡ q → Sound job q → k .at < q .at → Sound job k′ × (k .at < k′ .at)
+      to q e w l = subst (λ (z : Known). Sound job z × (k .at < z .at)) (sym e) (w, l)
+
+      go : Turn job k k′ ls → Sound job k′ × (k .at < k′ .at)
+      go (read-taxa n a c b e l) = to (withTaxa (k .at) n) e (sound-taxa n a c b) (omega arith)
+      go (read-table t a c p e l) = to (withTable (k .at) (k .taxa) t) e (sound-table t a c p) (omega arith)
+      go (read-partition y a b few c r e l) = to (withPartition k y) e (sound-partition y a b few c r) (omega arith)
+      go (read-move m a b c p e l) = to (withMove k m) e (sound-move m a b c p) (omega arith)
+
+-- ---- a step's lines
+
+-- The distance of two trees is small.
+dist-few : (n : ℕ) (t u : List ℕ) (y : ℕ) → Accepted n t → Accepted n u → ltb y (2 ^ n) ≡ true → dist n t u y < 2 ^ 64
+unfolding dist
+dist-few n t u y a b l =
+    let w = ltb-true y (2 ^ n) l in
+    omega (
+      arith,
+      a .few,
+      lacks-most (splits n t y) (splits n u y),
+      lacks-most (splits n u y) (splits n t y),
+      members-count n t y (a .valid) w,
+      members-count n u y (b .valid) w,
+      members-is (size n y),
+      size-le n y,
+    )
+
+-- The lines of some partitions have few bytes.
+verdicts-few : (n : ℕ) (t u : List ℕ) (m p : ℕ) (ys : List ℕ) → Accepted n t → Accepted n u → m < 2 ^ 64 → p + length ys < 2 ^ 64 → each (λ y. ltb y (2 ^ n)) ys ≡ true
+    → length (verdictLines m p (distances n t u ys)) ≤ 80 * length ys
+unfolding verdictLines distances each
+verdicts-few n t u m p [] a b hm hp h = omega arith
+verdicts-few n t u m p (y ∷ ys) a b hm hp h =
+    let d = dist n t u y in
+    let l = dist-few n t u y a b (and-left (ltb y (2 ^ n)) (each (λ x. ltb x (2 ^ n)) ys) h) in
+    let ih = verdicts-few n t u m (p + 1) ys a b hm (omega (arith, hp)) (and-right (ltb y (2 ^ n)) (each (λ x. ltb x (2 ^ n)) ys) h) in
+    omega (arith, length-append (verdictLine m p d) (verdictLines m (p + 1) (distances n t u ys)), verdict-few m p d hm (omega (arith, hp)) l, ih)
+
+-- The lines of a move have few bytes.
+move-lines-few : (n : ℕ) (t u ys : List ℕ) (k : ℕ) → Accepted n t → Accepted n u → k < 2 ^ 64 → length ys ≤ mostPartitions → each (λ y. ltb y (2 ^ n)) ys ≡ true
+    → length (moveLines k (distances n t u ys)) ≤ enough
+move-lines-few n t u ys k a b hk few h =
+    let ds = distances n t u ys in
+    omega (
+      arith,
+      lines-length k ds,
+      verdicts-few n t u k 1 ys a b hk (omega (arith, few)) h,
+      distances-length n t u ys,
+      saved-few k (zeros ds) (length ds) hk (omega (arith, few, zeros-le ds, distances-length n t u ys)) (omega (arith, few, distances-length n t u ys)),
+    )
+
+-- So a step's lines fit memory for one move's.
+pub lines-few : (job : List ℕ) (k : Known) → Sound job k → k .moves ≤ longest → (k′ : Known) (ls : List ℕ) → field job k ≡ next k′ ls → length ls ≤ enough
+lines-few job k s few k′ ls h = go (turn job k k′ ls h)
+  where
+    none : ls ≡ [] → length ls ≤ enough
+    none e = omega (arith, ap length e)
+
+    go : Turn job k k′ ls → length ls ≤ enough
+    go (read-taxa n a c b e l) = none l
+    go (read-table t a c p e l) = none l
+    go (read-partition y a b c d r e l) = none l
+    go (read-move m a b c p e l) =
+        let w = past k a b (s .stage) in
+        omega (
+          arith,
+          ap length l,
+          move-lines-few (k .taxa) (k .table) (moved (k .taxa) (k .table) m) (k .parts) (k .moves + 1) (w .1) (moved-accepted (k .taxa) (k .table) m (w .1) p) (omega (arith, few)) (s .few-parts) (w .2),
+        )

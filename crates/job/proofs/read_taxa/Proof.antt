@@ -1,0 +1,56 @@
+-- `job::read_taxa` meets its contract. Assumes nothing.
+use mir.Facts.{fits-widen}
+use mathlib.Core.Path.{sym, _∙_}
+use native.Mathlib.Omega.{arith}
+use borrow.Author.Tests.{not-true, not-false}
+use Rattle.job.proofs.ReadLaws.{reaches, taxa-12, taxa-1-low, taxa-1-high, taxa-next}
+use borrow.Author.Needs.{needs}
+use Rattle.job.proofs.read_taxa.Statement.{statement}
+use Rattle.job.proofs.read_taxa.Tie as tie
+
+length-right-requires : tie.Need-length-right-requires
+length-right-requires c κs = search needs
+
+returns : tie.Need-returns
+returns c =
+    taxa-12 (c .before .before .before .args .job .now) (c .before .before .before .args .at) (sym (c .before .length-right .ensures) ∙ not-true (c .before .length-right .result) (c .if1 .taken))
+
+add-n : tie.Need-add-n
+add-n c = search needs
+
+shared-slice-read-n : tie.Need-shared-slice-read-n
+shared-slice-read-n c =
+    omega (arith, reaches (c .before .before .before .before .args .job .now) (c .before .before .before .before .args .at) 1 (sym (c .before .before .length-right .ensures) ∙ not-false (c .before .before .length-right .result) (c .before .if1 .left)))
+
+cast-n : tie.Need-cast-n
+cast-n c =
+    fits-widen tt (c .shared-slice-known2 .given _)
+
+returns-2 : tie.Need-returns-2
+returns-2 c =
+    taxa-1-low (c .before .before .before .before .before .args .job .now) (c .before .before .before .before .before .args .at) (sym (c .before .before .before .length-right .ensures) ∙ not-false (c .before .before .before .length-right .result) (c .before .before .if1 .left)) (search needs)
+
+returns-3 : tie.Need-returns-3
+returns-3 c =
+    taxa-1-high (c .before .before .before .before .before .before .args .job .now) (c .before .before .before .before .before .before .args .at) (sym (c .before .before .before .before .length-right .ensures) ∙ not-false (c .before .before .before .before .length-right .result) (c .before .before .before .if1 .left)) (search needs)
+
+add-t7 : tie.Need-add-t7
+add-t7 c = search needs
+
+returns-4 : tie.Need-returns-4
+returns-4 c =
+    taxa-next (c .before .before .before .before .before .before .args .job .now) (c .before .before .before .before .before .before .args .at) (sym (c .before .before .before .before .length-right .ensures) ∙ not-false (c .before .before .before .before .length-right .result) (c .before .before .before .if1 .left)) (search needs) (search needs)
+
+pub read-taxa-spec : {M : Type 1} → statement M
+read-taxa-spec =
+    tie.close
+    (tie.spec
+    length-right-requires
+    returns
+    add-n
+    shared-slice-read-n
+    cast-n
+    returns-2
+    returns-3
+    add-t7
+    returns-4)

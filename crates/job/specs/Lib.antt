@@ -1,0 +1,4 @@
+pub mod Job
+pub mod Runs
+pub mod Sound
+pub mod Steps

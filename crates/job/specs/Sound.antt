@@ -1,0 +1,29 @@
+-- What holds of everything known in a job, and of the end of a listing.
+use Prim.Native.Nat.{ℕ, _*_, _^_, _≤_, _<_}
+use mathlib.Core.Path.{_≡_}
+use mathlib.Core.Bool.{true}
+use mathlib.Core.List.{List, [], _++_}
+use lib.Dec.{ltb}
+use lib.ListN.{length}
+use Rattle.taxa.specs.Most.{most, mostPartitions}
+use Rattle.tree.specs.Refusals.{each, Accepted}
+use Rattle.text.specs.Lines.{endLine, refusedLine}
+use Rattle.job.specs.Job.{Known, nothing}
+
+-- Before n, between n and the table, and after the table.
+pub data Stage (k : Known) : Type 0 where
+  at-start : k ≡ nothing → Stage k
+  at-table : k .at ≡ 4 → 4 ≤ k .taxa → k .taxa ≤ most → k .table ≡ [] → k .parts ≡ [] → k .moves ≡ 0 → Stage k
+  past-table : 4 < k .at → Accepted (k .taxa) (k .table) → each (λ y. ltb y (2 ^ k .taxa)) (k .parts) ≡ true → Stage k
+
+-- What is known lies within the job, with as many moves as their bytes allow and no more partitions than the most.
+pub record Sound (job : List ℕ) (k : Known) : Type 0 where
+  pub within : k .at ≤ length job
+  pub few-moves : 7 * k .moves ≤ k .at
+  pub few-parts : length (k .parts) ≤ mostPartitions
+  pub stage : Stage k
+
+-- A listing that ends with a closing line.
+pub data Closes (l : List ℕ) : Type 0 where
+  by-end : (ls : List ℕ) (m : ℕ) → l ≡ ls ++ endLine m → Closes l
+  by-refusal : (ls : List ℕ) (r p : ℕ) → l ≡ ls ++ refusedLine r p → Closes l

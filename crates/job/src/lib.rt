@@ -1,0 +1,331 @@
+// The step over one field of a job, from the state the last step gave.
+ghost use Prim.Native.Nat.{_+_, _*_, _<_, _≤_};
+ghost use mathlib.Core.Path.{_≡_};
+ghost use mathlib.Core.Bool.{true, _||_};
+ghost use lib.Dec.{eqb, leb};
+ghost use mathlib.Core.List.{[]};
+ghost use lib.ListN.{length, take, drop};
+ghost use Rattle.taxa.specs.Most.{most};
+ghost use Rattle.tree.specs.Tree.{rows};
+ghost use Rattle.fits.specs.Bytes.{moveOf, fittedSays};
+ghost use Rattle.fields.specs.Fields as fields_spec;
+ghost use Rattle.fields.specs.Fields.{tagAt, moveIn};
+ghost use Rattle.job.specs.Job.{taxaStep, tableStep, keptStep, partitionStep, moveStep, fieldOf, field, longest};
+ghost use Rattle.job.specs.Steps.{knownOf, fitting, stepped, steppedSays, toldOf, tableThen, partsThen, stateSaid, Gives, Held};
+use fits::Fitted;
+use fits::Move;
+use listing::Lines;
+use table::Checked;
+use table::Refusal;
+
+// The most bytes in a job.
+const LONGEST: usize = 65535;
+
+// How far a job was read: the offset of the next field, the number of taxa, how many partitions and how many moves were read.
+pub struct State {
+    pub at: usize,
+    pub taxa: usize,
+    pub parts: usize,
+    pub moves: u64,
+}
+
+// The answer of a step: the next state and how many bytes of lines were written; that the job is over; or a refusal and its place.
+pub enum Stepped {
+    Next { state: State, wrote: usize },
+    Ended,
+    Refused { why: Refusal, place: usize },
+}
+
+// The state before the first field.
+pub fn start() -> State
+    ensures { λ s. ⌜ (s .at ≡ 0) × (s .taxa ≡ 0) × (s .parts ≡ 0) × (s .moves ≡ 0) ⌝ }
+{
+    State {
+        at: 0,
+        taxa: 0,
+        parts: 0,
+        moves: 0,
+    }
+}
+
+// Tag 1: n.
+fn read_taxa(job: &[u8], at: usize) -> Stepped
+    requires { ⌜ at < length (now job) ⌝ }
+    ensures { λ r. ⌜ steppedSays r ≡ toldOf (taxaStep (now (job .entry)) at) ⌝ }
+{
+    if !fields::length_right(job, at, 1) {
+        return Stepped::Refused {
+            why: Refusal::Field,
+            place: at,
+        };
+    }
+    let n = job[at + 3] as usize;
+    if n < 4 {
+        return Stepped::Refused {
+            why: Refusal::Count,
+            place: at,
+        };
+    }
+    if taxa::MOST < n {
+        return Stepped::Refused {
+            why: Refusal::Count,
+            place: at,
+        };
+    }
+    Stepped::Next {
+        state: State {
+            at: at + 4,
+            taxa: n,
+            parts: 0,
+            moves: 0,
+        },
+        wrote: 0,
+    }
+}
+
+// Keeps the table t of the field at an offset where it is a tree: refusals 3 to 5.
+fn keep_table(at: usize, n: usize, t: &[u8], table: &mut [u8]) -> Stepped
+    requires { ⌜ (at ≤ longest) × (4 ≤ n) × (n ≤ most) × (length (now t) ≡ 2 * rows n) × (2 * rows n ≤ length (now table)) ⌝ }
+    ensures { λ r. ⌜ (steppedSays r ≡ toldOf (keptStep at n (now (t .entry)))) × (now (table .exit) ≡ tableThen (keptStep at n (now (t .entry))) (now (table .entry))) ⌝ }
+{
+    let answer = near::check_tree(n, t);
+    match answer {
+        Checked::Refused(r) => Stepped::Refused { why: r, place: at },
+        Checked::Tree => {
+            let k = bytes::copy(t, table);
+            Stepped::Next {
+                state: State {
+                    at: at + 3 + k,
+                    taxa: n,
+                    parts: 0,
+                    moves: 0,
+                },
+                wrote: 0,
+            }
+        }
+    }
+}
+
+// Tag 2: the table.
+fn read_table(job: &[u8], at: usize, n: usize, table: &mut [u8]) -> Stepped
+    requires { ⌜ (at < length (now job)) × (length (now job) ≤ longest) × (4 ≤ n) × (n ≤ most) × (2 * rows n ≤ length (now table)) ⌝ }
+    ensures { λ r. ⌜ (steppedSays r ≡ toldOf (tableStep (now (job .entry)) at n)) × (now (table .exit) ≡ tableThen (tableStep (now (job .entry)) at n) (now (table .entry))) ⌝ }
+{
+    let rest = job.len() - at;
+    if rest < 3 {
+        return Stepped::Refused {
+            why: Refusal::Field,
+            place: at,
+        };
+    }
+    let l = 2 * (2 * n - 3);
+    if fields::stated(job, at) != l {
+        return Stepped::Refused {
+            why: Refusal::Length,
+            place: at,
+        };
+    }
+    if rest - 3 < l {
+        return Stepped::Refused {
+            why: Refusal::Field,
+            place: at,
+        };
+    }
+    let from = at + 3;
+    keep_table(at, n, &job[from..from + l], table)
+}
+
+// Tag 3: a partition.
+fn read_partition(job: &[u8], s: State, parts: &mut [u64]) -> Stepped
+    requires { ⌜ (s .at < length (now job)) × (4 ≤ s .taxa) × (s .taxa ≤ most) × (s .parts ≤ length (now parts)) ⌝ }
+    ensures { λ r. ⌜ (steppedSays r ≡ toldOf (fitting (s .at) (length (now (parts .entry))) 0 (partitionStep (now (job .entry)) (knownOf s [] (now (parts .entry)))))) × (now (parts .exit) ≡ partsThen (fitting (s .at) (length (now (parts .entry))) 0 (partitionStep (now (job .entry)) (knownOf s [] (now (parts .entry))))) (now (parts .entry))) ⌝ }
+{
+    let at = s.at;
+    let n = s.taxa;
+    let c = s.parts;
+    if !fields::length_right(job, at, 8) {
+        return Stepped::Refused {
+            why: Refusal::Field,
+            place: at,
+        };
+    }
+    let y = fields::number_in(job, at + 3);
+    if !taxa::within(y, n) {
+        return Stepped::Refused {
+            why: Refusal::Partition,
+            place: at,
+        };
+    }
+    if parts.len() <= c {
+        return Stepped::Refused {
+            why: Refusal::Room,
+            place: at,
+        };
+    }
+    parts[c] = y;
+    Stepped::Next {
+        state: State {
+            at: at + 11,
+            taxa: n,
+            parts: c + 1,
+            moves: s.moves,
+        },
+        wrote: 0,
+    }
+}
+
+// The move in four bytes from a place on.
+fn move_in(job: &[u8], from: usize) -> Move
+    requires { ⌜ from + 4 ≤ length (now job) ⌝ }
+    ensures { λ m. ⌜ moveOf m ≡ moveIn (take 4 (drop from (now (job .entry)))) ⌝ }
+{
+    Move {
+        kind: job[from],
+        first: job[from + 1],
+        second: job[from + 2],
+        third: job[from + 3],
+    }
+}
+
+// Tag 4: a move, on the tree the last left, and its lines.
+fn read_move(job: &[u8], s: State, table: &mut [u8], parts: &[u64], out: &mut [u8]) -> Stepped
+    requires { ⌜ (s .at < length (now job)) × (4 < s .at) × (Held s (now table) (now parts)) ⌝ }
+    ensures { λ r. ⌜ Gives (fitting (s .at) (length (now (parts .entry))) (length (now (out .entry))) (moveStep (now (job .entry)) (knownOf s (now (table .entry)) (now (parts .entry))))) r (now (table .entry)) (now (table .exit)) (now (parts .entry)) (now (parts .entry)) (now (out .entry)) (now (out .exit)) ⌝ }
+{
+    let at = s.at;
+    let n = s.taxa;
+    let c = s.parts;
+    if !fields::length_right(job, at, 4) {
+        return Stepped::Refused {
+            why: Refusal::Field,
+            place: at,
+        };
+    }
+    let m = move_in(job, at + 3);
+    let l = table_bytes(n);
+    let number = s.moves + 1;
+    match listing::list_move(n, &mut table[..l], &parts[..c], m, number, out, 0) {
+        Lines::Refused(r) => Stepped::Refused { why: r, place: at },
+        Lines::To(e) => Stepped::Next {
+            state: State {
+                at: at + 7,
+                taxa: n,
+                parts: c,
+                moves: number,
+            },
+            wrote: e,
+        },
+    }
+}
+
+// The field with an allowed tag.
+fn read_field(job: &[u8], s: State, table: &mut [u8], parts: &mut [u64], out: &mut [u8]) -> Stepped
+    requires { ⌜ (s .at < length (now job)) × (length (now job) ≤ longest) × (Held s (now table) (now parts)) × (fields_spec.allowed (s .at) (s .parts) (s .moves) (tagAt (now job) (s .at)) ≡ true) ⌝ }
+    ensures { λ r. ⌜ Gives (fitting (s .at) (length (now (parts .entry))) (length (now (out .entry))) (fieldOf (now (job .entry)) (knownOf s (now (table .entry)) (now (parts .entry))) (tagAt (now (job .entry)) (s .at)))) r (now (table .entry)) (now (table .exit)) (now (parts .entry)) (now (parts .exit)) (now (out .entry)) (now (out .exit)) ⌝ }
+{
+    let at = s.at;
+    let tag = job[at];
+    if tag == 1 {
+        return read_taxa(job, at);
+    }
+    if tag == 2 {
+        return read_table(job, at, s.taxa, table);
+    }
+    if tag == 3 {
+        return read_partition(job, s, parts);
+    }
+    read_move(job, s, table, parts, out)
+}
+
+// The next field of a state that a job can have: its end, and whether its tag is allowed.
+fn read_next(job: &[u8], s: State, table: &mut [u8], parts: &mut [u64], out: &mut [u8]) -> Stepped
+    requires { ⌜ (length (now job) ≤ longest) × (Held s (now table) (now parts)) ⌝ }
+    ensures { λ r. ⌜ Gives (fitting (s .at) (length (now (parts .entry))) (length (now (out .entry))) (field (now (job .entry)) (knownOf s (now (table .entry)) (now (parts .entry))))) r (now (table .entry)) (now (table .exit)) (now (parts .entry)) (now (parts .exit)) (now (out .entry)) (now (out .exit)) ⌝ }
+{
+    let at = s.at;
+    let c = s.parts;
+    if job.len() <= at {
+        if c == 0 {
+            return Stepped::Refused {
+                why: Refusal::Field,
+                place: job.len(),
+            };
+        }
+        return Stepped::Ended;
+    }
+    if !fields::allowed(at, c, s.moves, job[at]) {
+        return Stepped::Refused {
+            why: Refusal::Field,
+            place: at,
+        };
+    }
+    read_field(job, s, table, parts, out)
+}
+
+// Whether an offset is that of the first field, or x is 4 or more.
+fn four_after_start(at: usize, x: usize) -> bool
+    ensures { λ r. ⌜ r ≡ (eqb at 0 || leb 4 x) ⌝ }
+{
+    if at == 0 {
+        return true;
+    }
+    4 <= x
+}
+
+// How many bytes the table of a tree on n taxa has.
+fn table_bytes(n: usize) -> usize
+    requires { ⌜ n ≤ most ⌝ }
+    ensures { λ r. ⌜ r ≡ 2 * rows n ⌝ }
+{
+    if n < 2 {
+        return 0;
+    }
+    2 * (2 * n - 3)
+}
+
+// Whether a state is one that a job can have with this memory; else why not.
+fn state_right(s: State, table: usize, parts: usize) -> Fitted
+    ensures { λ r. ⌜ fittedSays r ≡ stateSaid s table parts ⌝ }
+{
+    let at = s.at;
+    let n = s.taxa;
+    if taxa::MOST < n {
+        return Fitted::Refused(Refusal::Count);
+    }
+    if !four_after_start(at, n) {
+        return Fitted::Refused(Refusal::Count);
+    }
+    if table < table_bytes(n) {
+        return Fitted::Refused(Refusal::Room);
+    }
+    if parts < s.parts {
+        return Fitted::Refused(Refusal::Room);
+    }
+    if !four_after_start(at, at) {
+        return Fitted::Refused(Refusal::Field);
+    }
+    if 65535 < s.moves {
+        return Fitted::Refused(Refusal::Field);
+    }
+    Fitted::Fits
+}
+
+// The step over one field of a job, from the state the last step gave. The table and the partitions read so far are in the lent memory; a move's lines are written at the start of out.
+pub fn step(job: &[u8], s: State, table: &mut [u8], parts: &mut [u64], out: &mut [u8]) -> Stepped
+    ensures { λ r. ⌜ Gives (stepped (now (job .entry)) s (now (table .entry)) (now (parts .entry)) (length (now (out .entry)))) r (now (table .entry)) (now (table .exit)) (now (parts .entry)) (now (parts .exit)) (now (out .entry)) (now (out .exit)) ⌝ }
+{
+    if LONGEST < job.len() {
+        return Stepped::Refused {
+            why: Refusal::Long,
+            place: 0,
+        };
+    }
+    let fit = state_right(s, table.len(), parts.len());
+    match fit {
+        Fitted::Refused(r) => Stepped::Refused {
+            why: r,
+            place: s.at,
+        },
+        Fitted::Fits => read_next(job, s, table, parts, out),
+    }
+}

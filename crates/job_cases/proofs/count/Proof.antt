@@ -1,0 +1,117 @@
+-- `job_cases::count` meets its contract. Assumes nothing.
+use mathlib.Core.Path.{_≡_}
+use lib.ListN.{length}
+use borrow.Author.Needs.{needs}
+use Rattle.job_cases.proofs.count.Statement.{statement}
+use Rattle.job_cases.proofs.count.Tie as tie
+
+abbrev Inv-loop : tie.InvT-loop
+Inv-loop input tree₀ parts₀ out₀ s₀ lines₀ last₀ left₀ tree parts out s lines last left =
+    (length tree ≡ 250) × (length parts ≡ 64) × (length out ≡ 8192)
+
+abbrev μ-loop : tie.MeasureT-loop
+μ-loop input tree₀ parts₀ out₀ s₀ lines₀ last₀ left₀ tree parts out s lines last left =
+    left
+
+start-requires : tie.Need-start-requires Inv-loop μ-loop
+start-requires c κs = search needs
+
+loop-holds : tie.Need-loop-holds Inv-loop μ-loop
+loop-holds c = search needs
+
+slice-aggregate-step : tie.Need-slice-aggregate-step Inv-loop μ-loop
+slice-aggregate-step c = search needs
+
+slice-aggregate-step-2 : tie.Need-slice-aggregate-step-2 Inv-loop μ-loop
+slice-aggregate-step-2 c = search needs
+
+slice-aggregate-step-3 : tie.Need-slice-aggregate-step-3 Inv-loop μ-loop
+slice-aggregate-step-3 c = search needs
+
+step-requires : tie.Need-step-requires Inv-loop μ-loop
+step-requires c κs = search needs
+
+enum-known-state : tie.Need-enum-known-state Inv-loop μ-loop
+enum-known-state c = search needs
+
+slice-aggregate-feeds : tie.Need-slice-aggregate-feeds Inv-loop μ-loop
+slice-aggregate-feeds c = search needs
+
+feeds-requires : tie.Need-feeds-requires Inv-loop μ-loop
+feeds-requires c κs = search needs
+
+wrapping-add-u64-requires : tie.Need-wrapping-add-u64-requires Inv-loop μ-loop
+wrapping-add-u64-requires c κs = search needs
+
+enum-told : tie.Need-enum-told Inv-loop μ-loop
+enum-told c = search needs
+
+slice-aggregate-tally : tie.Need-slice-aggregate-tally Inv-loop μ-loop
+slice-aggregate-tally c = search needs
+
+tally-requires : tie.Need-tally-requires Inv-loop μ-loop
+tally-requires c κs = search needs
+
+end-requires : tie.Need-end-requires Inv-loop μ-loop
+end-requires c κs = search needs
+
+returns : tie.Need-returns Inv-loop μ-loop
+returns c = search needs
+
+enum-known-why : tie.Need-enum-known-why Inv-loop μ-loop
+enum-known-why c = search needs
+
+slice-aggregate-tally-2 : tie.Need-slice-aggregate-tally-2 Inv-loop μ-loop
+slice-aggregate-tally-2 c = search needs
+
+tally-requires-2 : tie.Need-tally-requires-2 Inv-loop μ-loop
+tally-requires-2 c κs = search needs
+
+refused-requires : tie.Need-refused-requires Inv-loop μ-loop
+refused-requires c κs = search needs
+
+returns-2 : tie.Need-returns-2 Inv-loop μ-loop
+returns-2 c = search needs
+
+sub-left : tie.Need-sub-left Inv-loop μ-loop
+sub-left c = search needs
+
+loop-less : tie.Need-loop-less Inv-loop μ-loop
+loop-less c = search needs
+
+loop-again : tie.Need-loop-again Inv-loop μ-loop
+loop-again c = search needs
+
+returns-3 : tie.Need-returns-3 Inv-loop μ-loop
+returns-3 c = search needs
+
+pub count-spec : {M : Type 1} → statement M
+count-spec =
+    tie.close
+    (tie.spec
+    Inv-loop
+    μ-loop
+    start-requires
+    loop-holds
+    slice-aggregate-step
+    slice-aggregate-step-2
+    slice-aggregate-step-3
+    step-requires
+    enum-known-state
+    slice-aggregate-feeds
+    feeds-requires
+    wrapping-add-u64-requires
+    enum-told
+    slice-aggregate-tally
+    tally-requires
+    end-requires
+    returns
+    enum-known-why
+    slice-aggregate-tally-2
+    tally-requires-2
+    refused-requires
+    returns-2
+    sub-left
+    loop-less
+    loop-again
+    returns-3)

@@ -1,0 +1,48 @@
+-- `job_cases::feeds` meets its contract. Assumes nothing.
+use Prim.Native.Nat.{_≤_, _-_}
+use borrow.Author.Needs.{needs}
+use Rattle.job_cases.proofs.feeds.Statement.{statement}
+use Rattle.job_cases.proofs.feeds.Tie as tie
+
+abbrev Inv-loop : tie.InvT-loop
+Inv-loop lines wrote k₀ i₀ k i =
+    i ≤ wrote
+
+abbrev μ-loop : tie.MeasureT-loop
+μ-loop lines wrote k₀ i₀ k i =
+    wrote - i
+
+loop-holds : tie.Need-loop-holds Inv-loop μ-loop
+loop-holds c = search needs
+
+shared-slice-read-if2 : tie.Need-shared-slice-read-if2 Inv-loop μ-loop
+shared-slice-read-if2 c = search needs
+
+wrapping-add-u64-requires : tie.Need-wrapping-add-u64-requires Inv-loop μ-loop
+wrapping-add-u64-requires c κs = search needs
+
+add-i : tie.Need-add-i Inv-loop μ-loop
+add-i c = search needs
+
+loop-less : tie.Need-loop-less Inv-loop μ-loop
+loop-less c = search needs
+
+loop-again : tie.Need-loop-again Inv-loop μ-loop
+loop-again c = search needs
+
+returns : tie.Need-returns Inv-loop μ-loop
+returns c = search needs
+
+pub feeds-spec : {M : Type 1} → statement M
+feeds-spec =
+    tie.close
+    (tie.spec
+    Inv-loop
+    μ-loop
+    loop-holds
+    shared-slice-read-if2
+    wrapping-add-u64-requires
+    add-i
+    loop-less
+    loop-again
+    returns)

@@ -1,0 +1,522 @@
+// Jobs of document 01, run: for each a line of its own, then the job's listing.
+use job::Stepped;
+use libc::STDOUT_FILENO;
+use table::Refusal;
+
+// Tree S of document 01: taxa 0 to 5 along a line.
+const S: [u8; 18] = [0, 6, 1, 6, 6, 7, 2, 7, 7, 8, 3, 8, 8, 9, 4, 9, 5, 9];
+
+// Tree S with the larger end of its first row first.
+const S_TURNED: [u8; 18] = [6, 0, 1, 6, 6, 7, 2, 7, 7, 8, 3, 8, 8, 9, 4, 9, 5, 9];
+
+// Tree S with taxon 1 at two rows and taxon 0 at none.
+const S_TWICE: [u8; 18] = [1, 6, 1, 6, 6, 7, 2, 7, 7, 8, 3, 8, 8, 9, 4, 9, 5, 9];
+
+// The rows of document 01 that pass 4 and are 5.
+const APART: [u8; 10] = [0, 1, 4, 5, 4, 5, 2, 4, 3, 5];
+
+// The job of document 01.
+const DOCUMENT: [u8; 54] = [
+    1,
+    0,
+    1,
+    6,
+    2,
+    0,
+    18,
+    0,
+    6,
+    1,
+    6,
+    6,
+    7,
+    2,
+    7,
+    7,
+    8,
+    3,
+    8,
+    8,
+    9,
+    4,
+    9,
+    5,
+    9,
+    3,
+    0,
+    8,
+    0,
+    0,
+    0,
+    0,
+    0,
+    0,
+    0,
+    63,
+    3,
+    0,
+    8,
+    0,
+    0,
+    0,
+    0,
+    0,
+    0,
+    0,
+    15,
+    4,
+    0,
+    4,
+    1,
+    4,
+    3,
+    5,
+];
+
+// Writes the first bytes of what was lent for lines, where it has so many.
+fn put(lines: &[u8], wrote: usize) {
+    if wrote <= lines.len() {
+        io::write_all(STDOUT_FILENO, &lines[..wrote]);
+    }
+}
+
+// Writes the closing line of a job that is over.
+fn end(moves: u64) {
+    let mut line = [0u8; 64];
+    let wrote = text::end_line(moves, &mut line);
+    put(&line, wrote);
+}
+
+// Writes the closing line of a job that is refused.
+fn refused(why: Refusal, place: usize) {
+    let mut line = [0u8; 64];
+    let wrote = text::refused_line(table::number(why) as u64, place as u64, &mut line);
+    put(&line, wrote);
+}
+
+// Writes the listing of a job, a step over one field at a time.
+fn list(input: &[u8]) {
+    let mut tree = [0u8; 250];
+    let mut parts = [0u64; 64];
+    let mut out = [0u8; 8192];
+    let mut s = job::start();
+    let mut left: u64 = 65537;
+    while 0 < left {
+        let moves = s.moves;
+        match job::step(input, s, &mut tree, &mut parts, &mut out) {
+            Stepped::Next { state, wrote } => {
+                put(&out, wrote);
+                s = state;
+            }
+            Stepped::Ended => {
+                end(moves);
+                return;
+            }
+            Stepped::Refused { why, place } => {
+                refused(why, place);
+                return;
+            }
+        }
+        left -= 1;
+    }
+}
+
+// How many of the first bytes are line feeds.
+fn feeds(lines: &[u8], wrote: usize) -> u64 {
+    let mut k: u64 = 0;
+    let mut i: usize = 0;
+    while i < wrote {
+        if i < lines.len() {
+            if lines[i] == 10 {
+                k = std::num::wrapping_add_u64(k, 1);
+            }
+        }
+        i += 1;
+    }
+    k
+}
+
+// Writes how many lines the moves of a job have, then the lines of its last move.
+fn tally(lines: u64, out: &[u8], wrote: usize) {
+    io::print_decimal(STDOUT_FILENO, lines);
+    io::write_all(STDOUT_FILENO, b" lines, the last of them\n");
+    put(out, wrote);
+}
+
+// The same as the listing, but of the lines of moves only their number and the last move's.
+fn count(input: &[u8]) {
+    let mut tree = [0u8; 250];
+    let mut parts = [0u64; 64];
+    let mut out = [0u8; 8192];
+    let mut s = job::start();
+    let mut lines: u64 = 0;
+    let mut last: usize = 0;
+    let mut left: u64 = 65537;
+    while 0 < left {
+        let moves = s.moves;
+        match job::step(input, s, &mut tree, &mut parts, &mut out) {
+            Stepped::Next { state, wrote } => {
+                lines = std::num::wrapping_add_u64(lines, feeds(&out, wrote));
+                last = wrote;
+                s = state;
+            }
+            Stepped::Ended => {
+                tally(lines, &out, last);
+                end(moves);
+                return;
+            }
+            Stepped::Refused { why, place } => {
+                tally(lines, &out, last);
+                refused(why, place);
+                return;
+            }
+        }
+        left -= 1;
+    }
+}
+
+// Writes the line that introduces a job.
+fn title(number: u64, words: &[u8]) {
+    io::write_all(STDOUT_FILENO, b"job ");
+    io::print_decimal(STDOUT_FILENO, number);
+    io::write_all(STDOUT_FILENO, b": ");
+    io::write_all(STDOUT_FILENO, words);
+    io::write_all(STDOUT_FILENO, b"\n");
+}
+
+// Introduces the job in so many first bytes and writes its listing.
+fn run(number: u64, words: &[u8], job: &[u8], long: usize) {
+    title(number, words);
+    if long <= job.len() {
+        list(&job[..long]);
+    }
+}
+
+// Introduces a long job and writes the end of its listing.
+fn run_long(number: u64, words: &[u8], job: &[u8], long: usize) {
+    title(number, words);
+    if long <= job.len() {
+        count(&job[..long]);
+    }
+}
+
+// Puts a byte at a place of a job, where it has room; the place after it.
+fn byte(job: &mut [u8], at: usize, b: u8) -> usize {
+    if at < job.len() {
+        job[at] = b;
+        return at + 1;
+    }
+    at
+}
+
+// Puts bytes from a place on; the place after them.
+fn all(job: &mut [u8], at: usize, l: &[u8]) -> usize {
+    let mut end = at;
+    let mut i: usize = 0;
+    while i < l.len() {
+        end = byte(job, end, l[i]);
+        i += 1;
+    }
+    end
+}
+
+// Puts a tag, a length below 256 and the content; the place after the field.
+fn field(job: &mut [u8], at: usize, tag: u8, long: u8, content: &[u8]) -> usize {
+    let a = byte(job, at, tag);
+    let b = byte(job, a, 0);
+    let c = byte(job, b, long);
+    all(job, c, content)
+}
+
+// Puts the fields of n and of a table of so many bytes.
+fn tree(job: &mut [u8], n: u8, long: u8, t: &[u8]) -> usize {
+    let a = field(job, 0, 1, 1, &[n]);
+    field(job, a, 2, long, t)
+}
+
+// Puts a partition of taxa below 8.
+fn part(job: &mut [u8], at: usize, y: u8) -> usize {
+    field(job, at, 3, 8, &[0, 0, 0, 0, 0, 0, 0, y])
+}
+
+// Puts a move.
+fn change(job: &mut [u8], at: usize, kind: u8, a: u8, b: u8, c: u8) -> usize {
+    field(job, at, 4, 4, &[kind, a, b, c])
+}
+
+// Puts tree S and the partitions of document 01; 47 bytes.
+fn begun(job: &mut [u8]) -> usize {
+    let a = tree(job, 6, 18, &S);
+    let b = part(job, a, 63);
+    part(job, b, 15)
+}
+
+// Puts partitions 0 to k - 1, each the taxa of its number's bits.
+fn partitions(job: &mut [u8], at: usize, k: u8) -> usize {
+    let mut end = at;
+    let mut y: u8 = 0;
+    while y < k {
+        end = part(job, end, y % 64);
+        y += 1;
+    }
+    end
+}
+
+// Puts k partitions of 64 taxa each.
+fn wholes(job: &mut [u8], at: usize, k: u8) -> usize {
+    let mut end = at;
+    let mut i: u8 = 0;
+    while i < k {
+        end = field(job, end, 3, 8, &[255; 8]);
+        i += 1;
+    }
+    end
+}
+
+// The largest tree: 64 taxa along a line, as tree S has six.
+fn along() -> [u8; 250] {
+    let mut t = [0u8; 250];
+    t[1] = 64;
+    let mut k: u8 = 0;
+    while k < 61 {
+        let i = 4 * (k as usize);
+        t[i + 2] = k + 1;
+        t[i + 3] = k + 64;
+        t[i + 4] = k + 64;
+        t[i + 5] = k + 65;
+        k += 1;
+    }
+    t[246] = 62;
+    t[247] = 125;
+    t[248] = 63;
+    t[249] = 125;
+    t
+}
+
+// Puts so many times three moves, an NNI, an SPR and a TBR.
+fn thrice(job: &mut [u8], at: usize, turns: u64) -> usize {
+    let mut end = at;
+    let mut k: u64 = 0;
+    while k < turns {
+        end = change(job, end, 1, 4, 2, 6);
+        end = change(job, end, 2, 4, 0, 0);
+        end = change(job, end, 3, 0, 0, 3);
+        k += 1;
+    }
+    end
+}
+
+// The job of document 01, the same refused, and jobs of several moves.
+fn documents() {
+    let mut j = DOCUMENT;
+    run(1, b"the document's job", &j, 54);
+    j[53] = 3;
+    run(2, b"the same with 03 as its last byte", &j, 54);
+    let mut l = [0u8; 256];
+    let a = begun(&mut l);
+    run(3, b"no moves", &l, a);
+    let b = change(&mut l, a, 2, 0, 7, 0);
+    let c = change(&mut l, b, 1, 4, 3, 5);
+    run(4, b"two moves, the second on rows the first changed", &l, c);
+    let e = change(&mut l, c, 2, 0, 1, 0);
+    let f = change(&mut l, e, 3, 4, 0, 2);
+    run(5, b"four moves", &l, f);
+    let g = change(&mut l, b, 2, 0, 7, 0);
+    let h = change(&mut l, g, 1, 4, 3, 5);
+    run(
+        6,
+        b"a refusal after an accepted move, and a move after it",
+        &l,
+        h,
+    );
+    let k = change(&mut l, a, 1, 4, 3, 5);
+    let m = change(&mut l, k, 1, 4, 3, 5);
+    let n = change(&mut l, m, 1, 4, 3, 2);
+    run(7, b"a refusal after a move there and back", &l, n);
+}
+
+// 64 partitions, the 65th, and none.
+fn lists() {
+    let mut j = [0u8; 1024];
+    let a = tree(&mut j, 6, 18, &S);
+    run(8, b"no partitions", &j, a);
+    let z = change(&mut j, a, 1, 4, 3, 5);
+    run(9, b"a move before any partition", &j, z);
+    let b = partitions(&mut j, a, 64);
+    let c = change(&mut j, b, 1, 4, 3, 5);
+    let e = change(&mut j, c, 2, 0, 7, 0);
+    run(10, b"64 partitions", &j, e);
+    let f = part(&mut j, b, 1);
+    run(11, b"a 65th partition", &j, f);
+    let g = field(&mut j, b, 3, 9, &[255]);
+    run(
+        12,
+        b"a 65th partition, its length wrong and cut short",
+        &j,
+        g,
+    );
+    let h = byte(&mut j, b, 3);
+    run(13, b"a 65th tag of a partition alone", &j, h);
+}
+
+// Refusals 1 to 5: the count and the table.
+fn tables() {
+    let mut j = [0u8; 256];
+    let a = tree(&mut j, 3, 18, &S);
+    run(14, b"three taxa", &j, a);
+    let b = tree(&mut j, 65, 18, &S);
+    run(15, b"65 taxa", &j, b);
+    let c = tree(&mut j, 0, 19, &[]);
+    run(16, b"no taxa and a table of a wrong length", &j, c);
+    let e = tree(&mut j, 6, 17, &S[..17]);
+    run(17, b"a table of a byte too few", &j, e);
+    let f = tree(&mut j, 5, 18, &S);
+    run(18, b"a table for one taxon more", &j, f);
+    let g = tree(&mut j, 6, 19, &S[..3]);
+    run(19, b"a wrong length of the table, cut short", &j, g);
+    let h = tree(&mut j, 6, 0, &[]);
+    run(20, b"an empty table", &j, h);
+    let i = tree(&mut j, 6, 18, &S_TURNED);
+    run(21, b"the larger end first", &j, i);
+    let k = tree(&mut j, 6, 18, &S_TWICE);
+    run(22, b"taxon 1 at two rows", &j, k);
+    let l = tree(&mut j, 4, 10, &APART);
+    run(23, b"an unreached node", &j, l);
+}
+
+// Refusal 2 by the length's high byte, and where the two bytes of the length are not all there.
+fn lengths() {
+    let mut j = DOCUMENT;
+    j[5] = 1;
+    run(24, b"a table's length of 256 too much", &j, 54);
+    run(25, b"the same, cut short after its length", &j, 7);
+    run(26, b"the same, cut short in its length", &j, 6);
+    let mut l = DOCUMENT;
+    l[1] = 1;
+    run(27, b"a wrong length of the count", &l, 54);
+    let mut m = DOCUMENT;
+    m[27] = 7;
+    run(28, b"a wrong length of a partition", &m, 54);
+    let mut n = DOCUMENT;
+    n[48] = 1;
+    run(29, b"a wrong length of a move", &n, 54);
+}
+
+// Refusals 6 to 10: a partition and moves.
+fn moves() {
+    let mut j = [0u8; 256];
+    let a = tree(&mut j, 6, 18, &S);
+    let b = part(&mut j, a, 64);
+    run(30, b"bit 6 with six taxa", &j, b);
+    let c = field(&mut j, a, 3, 8, &[128, 0, 0, 0, 0, 0, 0, 1]);
+    run(31, b"bit 63 with six taxa", &j, c);
+    let e = begun(&mut j);
+    let f = part(&mut j, e, 255);
+    run(32, b"a third partition with bit 6", &j, f);
+    let g = change(&mut j, e, 0, 4, 3, 5);
+    run(33, b"kind 0", &j, g);
+    let h = change(&mut j, e, 2, 0, 9, 1);
+    run(34, b"SPR 0,9 with last byte 1", &j, h);
+    let i = change(&mut j, e, 2, 0, 9, 0);
+    run(35, b"SPR 0,9", &j, i);
+    let k = change(&mut j, e, 2, 0, 0, 0);
+    run(36, b"SPR 0,0", &j, k);
+    let l = change(&mut j, e, 3, 0, 1, 3);
+    run(37, b"TBR 0,1,3", &j, l);
+    let m = change(&mut j, e, 2, 0, 1, 0);
+    run(38, b"SPR 0,1", &j, m);
+    let n = change(&mut j, e, 3, 4, 3, 5);
+    run(39, b"TBR 4,3,5, no end moves", &j, n);
+}
+
+// Refusal 12: tags that are unknown, out of order or sent twice.
+fn tags() {
+    let mut j = [0u8; 256];
+    run(40, b"an empty job", &j, 0);
+    run(41, b"tag 0 first", &j, 4);
+    let a = field(&mut j, 0, 2, 18, &S);
+    run(42, b"the table first", &j, a);
+    let b = field(&mut j, 0, 1, 1, &[6]);
+    let c = field(&mut j, b, 1, 1, &[6]);
+    run(43, b"the count twice", &j, c);
+    let e = part(&mut j, b, 63);
+    run(44, b"a partition before the table", &j, e);
+    let f = tree(&mut j, 6, 18, &S);
+    let g = field(&mut j, f, 2, 18, &S);
+    run(45, b"the table twice", &j, g);
+    let h = begun(&mut j);
+    let i = field(&mut j, h, 2, 18, &S);
+    run(46, b"the table again after partitions", &j, i);
+    let k = byte(&mut j, h, 5);
+    run(47, b"tag 5 after partitions", &j, k);
+}
+
+// Refusal 12: what may not follow a move.
+fn after_moves() {
+    let mut j = [0u8; 256];
+    let a = begun(&mut j);
+    let b = change(&mut j, a, 1, 4, 3, 5);
+    let c = part(&mut j, b, 63);
+    run(48, b"a partition after a move", &j, c);
+    let e = byte(&mut j, b, 0);
+    run(49, b"a byte after the last move", &j, e);
+    let f = all(&mut j, b, &[10, 13, 10]);
+    run(50, b"bytes after the last move", &j, f);
+    let g = field(&mut j, b, 1, 1, &[6]);
+    run(51, b"the count after a move", &j, g);
+    let h = field(&mut j, b, 4, 4, &[1, 4, 3]);
+    run(52, b"a second move cut short", &j, h);
+    let i = field(&mut j, b, 4, 5, &[1, 4, 3, 5, 0]);
+    run(53, b"a second move of five bytes", &j, i);
+}
+
+// The document's job cut at every place.
+fn cuts() {
+    let mut k: usize = 0;
+    while k < 54 {
+        io::write_all(STDOUT_FILENO, b"cut to ");
+        io::print_decimal(STDOUT_FILENO, k as u64);
+        io::write_all(STDOUT_FILENO, b" bytes, ");
+        run(54, b"the document's job", &DOCUMENT, k);
+        k += 1;
+    }
+}
+
+// The longest job and one byte more.
+fn longest() {
+    let mut j = io::large_buffer();
+    run(55, b"65536 bytes, the first already wrong", &j, 65536);
+    run(56, b"65535 bytes, the first already wrong", &j, 65535);
+    let a = tree(&mut j, 6, 18, &S);
+    let b = part(&mut j, a, 63);
+    let c = thrice(&mut j, b, 3119);
+    run_long(57, b"the longest job, 9357 moves", &j, c);
+    run_long(58, b"the same with a byte after it", &j, 65536);
+    run_long(59, b"the same with its last byte cut", &j, 65534);
+}
+
+// The largest tree and the most partitions, with the longest way that a move can go.
+fn largest() {
+    let mut j = [0u8; 1024];
+    let t = along();
+    let a = tree(&mut j, 64, 250, &t);
+    let b = wholes(&mut j, a, 64);
+    let c = change(&mut j, b, 2, 0, 123, 0);
+    let e = change(&mut j, c, 3, 62, 4, 119);
+    run(60, b"64 taxa and 64 partitions", &j, e);
+    let f = change(&mut j, c, 2, 0, 125, 0);
+    run(61, b"64 taxa, then SPR 0,125", &j, f);
+}
+
+fn main() {
+    documents();
+    lists();
+    tables();
+    lengths();
+    moves();
+    tags();
+    after_moves();
+    cuts();
+    longest();
+    largest();
+}

@@ -1,0 +1,96 @@
+-- The lines of the first partitions, one more, and all. Assumes nothing.
+use mathlib.Core.Path.{_≡_, refl, sym, ap, ap₂, _∙_}
+use mathlib.Core.List.{List, [], _∷_, _++_, append-assoc, append-nil}
+use Prim.Native.Nat.{ℕ, suc, _+_, _-_, _≤_, _<_}
+use native.Mathlib.Nat.{add-zero, zero-add}
+use native.Mathlib.Omega.{arith}
+use native.Mathlib.Numerals.{add-one}
+use lib.ListN.{length, getD, take, drop, length-append, take-append-drop, length-drop}
+use lib.Seq.{take-suc, length-take-le, take-length, take-append-seam}
+use Rattle.text.specs.Lines.{verdictLine, savedLine, putFirst, placed}
+use Rattle.text.proofs.Placing.{placed-start, placed-length, placed-placed, back}
+use Rattle.judge.specs.Promises.{Told}
+use Rattle.rules.specs.Each.{zeros}
+use Rattle.listing.specs.Listing.{verdictLines, moveLines}
+
+verdicts-append : (m p : ℕ) (xs ys : List ℕ) → verdictLines m p (xs ++ ys) ≡ verdictLines m p xs ++ verdictLines m (p + length xs) ys
+unfolding verdictLines
+verdicts-append m p [] ys = ap (λ (q : ℕ). verdictLines m q ys) (sym (add-zero p))
+verdicts-append m p (x ∷ xs) ys =
+    let e : p + 1 + length xs ≡ p + suc (length xs) = omega arith in
+    ap (λ (l : List ℕ). verdictLine m p x ++ l) (verdicts-append m (p + 1) xs ys ∙ ap (λ (q : ℕ). verdictLines m (p + 1) xs ++ verdictLines m q ys) e)
+    ∙ sym (append-assoc (verdictLine m p x) (verdictLines m (p + 1) xs) (verdictLines m (p + suc (length xs)) ys))
+
+one-line : (m p d : ℕ) → verdictLines m p (d ∷ []) ≡ verdictLine m p d
+unfolding verdictLines
+one-line m p d = append-nil (verdictLine m p d)
+
+-- the line of the partition after the first i
+pub verdicts-next : (m : ℕ) (ds : List ℕ) (i : ℕ) → i < length ds → verdictLines m 1 (take (i + 1) ds) ≡ verdictLines m 1 (take i ds) ++ verdictLine m (i + 1) (getD ds i 0)
+verdicts-next m ds i l =
+    ap (verdictLines m 1) (ap (λ (j : ℕ). take j ds) (add-one i) ∙ take-suc ds i 0 l)
+    ∙ verdicts-append m 1 (take i ds) (getD ds i 0 ∷ [])
+    ∙ ap (λ (l : List ℕ). verdictLines m 1 (take i ds) ++ l) (one-line m (1 + length (take i ds)) (getD ds i 0))
+    ∙ ap (λ (q : ℕ). verdictLines m 1 (take i ds) ++ verdictLine m q (getD ds i 0)) (omega (arith, length-take-le i ds (omega (arith, l))))
+
+-- so the lines before it and that line are no longer than all
+pub verdicts-room : (m : ℕ) (ds : List ℕ) (i : ℕ) → i < length ds → length (verdictLines m 1 (take i ds)) + length (verdictLine m (i + 1) (getD ds i 0)) ≤ length (verdictLines m 1 ds)
+verdicts-room m ds i l =
+    let e : verdictLines m 1 ds ≡ (verdictLines m 1 (take i ds) ++ verdictLine m (i + 1) (getD ds i 0)) ++ verdictLines m (1 + length (take (i + 1) ds)) (drop (i + 1) ds)
+    = ap (verdictLines m 1) (sym (take-append-drop (i + 1) ds)) ∙ verdicts-append m 1 (take (i + 1) ds) (drop (i + 1) ds)
+    ∙ ap (λ (x : List ℕ). x ++ verdictLines m (1 + length (take (i + 1) ds)) (drop (i + 1) ds)) (verdicts-next m ds i l) in
+    omega (
+      arith,
+      ap length e,
+      length-append (verdictLines m 1 (take i ds) ++ verdictLine m (i + 1) (getD ds i 0)) (verdictLines m (1 + length (take (i + 1) ds)) (drop (i + 1) ds)),
+      length-append (verdictLines m 1 (take i ds)) (verdictLine m (i + 1) (getD ds i 0)),
+    )
+
+pub verdicts-end : (m : ℕ) (ds : List ℕ) (i : ℕ) → i ≡ length ds → verdictLines m 1 (take i ds) ≡ verdictLines m 1 ds
+verdicts-end m ds i e = ap (verdictLines m 1) (ap (λ (j : ℕ). take j ds) e ∙ take-length ds)
+
+pub verdicts-none : (m : ℕ) (ds : List ℕ) → verdictLines m 1 (take 0 ds) ≡ []
+unfolding verdictLines
+verdicts-none m ds = refl
+
+pub lines-are : (m : ℕ) (ds : List ℕ) → verdictLines m 1 ds ++ savedLine m (zeros ds) (length ds) ≡ moveLines m ds
+unfolding moveLines
+lines-are m ds = refl
+
+pub lines-length : (m : ℕ) (ds : List ℕ) → length (verdictLines m 1 ds) + length (savedLine m (zeros ds) (length ds)) ≡ length (moveLines m ds)
+lines-length m ds = sym (length-append (verdictLines m 1 ds) (savedLine m (zeros ds) (length ds))) ∙ ap length (lines-are m ds)
+
+-- ---- lines after lines, at the start of a lent output
+pub put-whole : (xs o : List ℕ) → length xs ≤ length o → length (putFirst xs o) ≡ length o
+put-whole xs o h = ap length (sym (placed-start o xs)) ∙ placed-length o 0 xs (omega (arith, h))
+
+module _ (o₀ xs o : List ℕ) (e : ℕ) (h : e ≡ length xs) (w : o ≡ putFirst xs o₀) (ds : List ℕ) (room : length xs + length ds ≤ length o₀) where
+  start : o ≡ placed o₀ 0 xs
+  start = w ∙ sym (placed-start o₀ xs)
+
+  pub put-length : length o ≡ length o₀
+  put-length = ap length w ∙ put-whole xs o₀ (omega (arith, room))
+
+  pub put-room : e + length ds ≤ length o
+  put-room = omega (arith, h, put-length, room)
+
+  -- the part that is lent has room for ds
+  pub part-room : length ds ≤ length (take (length o - e) (drop e o))
+  part-room = omega (arith, put-room, length-take-le (length o - e) (drop e o) (omega (arith, length-drop e o)))
+
+  pub put-then : {part : List ℕ} {k : ℕ} → (k ≡ length ds) × (part ≡ putFirst ds (take (length o - e) (drop e o)))
+      → (e + k ≡ length (xs ++ ds)) × (take e o ++ (part ++ drop (length o - e) (drop e o)) ≡ putFirst (xs ++ ds) o₀)
+  put-then q = (
+    omega (arith, q .0, h, length-append xs ds),
+    back o e ds put-room q .1
+        ∙ ap₂ (λ (u : List ℕ) (v : ℕ). placed u v ds) start (h ∙ sym (zero-add (length xs)))
+        ∙ placed-placed o₀ 0 xs ds (omega (arith, room))
+        ∙ placed-start o₀ (xs ++ ds),
+  )
+
+-- the distances at the start of a list
+pub told-take : (ds out : List ℕ) (r : ℕ) (out′ : List ℕ) (k : ℕ) → k ≡ length ds → Told ds out r out′ → take k out′ ≡ ds
+told-take ds out r out′ k e told = ap (take k) (told .memory) ∙ ap (λ (j : ℕ). take j (ds ++ drop (length ds) out)) e ∙ take-append-seam ds (drop (length ds) out)
+
+pub told-within : (ds out : List ℕ) (r : ℕ) (out′ : List ℕ) (k : ℕ) → k ≡ length ds → Told ds out r out′ → k ≤ length out′
+told-within ds out r out′ k e told = omega (arith, e, ap length (told .memory), length-append ds (drop (length ds) out))

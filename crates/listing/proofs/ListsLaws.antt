@@ -1,0 +1,106 @@
+-- What the call for a move's lines says at each test of the code. Assumes nothing.
+use mathlib.Core.Path.{_≡_, sym, ap, _∙_}
+use mathlib.Core.Bool.{false, _&&_}
+use mathlib.Core.List.{List, [], _++_}
+use Prim.Native.Nat.{ℕ, _+_, _^_, _≤_, _<_}
+use native.Mathlib.Omega.{arith}
+use lib.Dec.{ltb, leb}
+use lib.ListN.{length}
+use borrow.Author.Tests.{le-leb, lt-leb}
+use Rattle.taxa.specs.Most.{mostPartitions}
+use Rattle.tree.specs.Splits.{distances}
+use Rattle.tree.specs.Refusals.{Check, Said, gives, refuses, judged, treeChecks, partitionsChecks, roomChecks, each, treeSaid, Accepted}
+use Rattle.tree.proofs.RefusalLaws.{Pass, judged-pass, judged-next, judged-fail, refuses-more, accepted-pass}
+use Rattle.table.specs.Says.{numberOf}
+use Rattle.table.proofs.Numbers.{number-one}
+use Rattle.table.specs.declared.Refusal.{Refusal}
+use Rattle.moves.specs.Moves.{Move, moved, moveChecks}
+use Rattle.fits.specs.Bytes.{fitSaid}
+use Rattle.text.specs.Lines.{placed}
+use Rattle.listing.specs.declared.Lines.{Lines}
+use Rattle.listing.specs.Listing.{moveLines, linesOf, linesSaid, linesSays, placeAfter, tableThen, outThen, Puts, Lists}
+
+module _ (n : ℕ) (t ys : List ℕ) (m : Move) (k : ℕ) (out : List ℕ) (place : ℕ) where
+  abbrev ls : List ℕ
+  ls = linesOf n t ys m k
+
+  abbrev said : Said (List ℕ)
+  said = linesSaid n t ys m k (length out) place
+
+  abbrev roomy : List Check
+  roomy = roomChecks (place + length ls) (length out)
+
+  not-listed : (r : Refusal) → said ≡ refuses (numberOf r) → Lists n t ys m k out place (Lines.Refused r) t out
+  not-listed r h = record {
+    says = sym (ap (placeAfter place) h);
+    table = sym (ap (λ (s : Said (List ℕ)). tableThen s (moved n t m) t) h);
+    memory = sym (ap (λ (s : Said (List ℕ)). outThen s place out) h);
+  }
+
+  pub lists-no-tree : (r : Refusal) → treeSaid n t ≡ refuses (numberOf r) → Lists n t ys m k out place (Lines.Refused r) t out
+  lists-no-tree r h = not-listed r (refuses-more (treeChecks n t) (partitionsChecks n ys ++ moveChecks n t m ++ roomy) tt ls (numberOf r) h)
+
+  module _ (good : Accepted n t) where
+    past-5 : said ≡ judged (partitionsChecks n ys ++ moveChecks n t m ++ roomy) ls
+    past-5 = judged-pass (treeChecks n t) (partitionsChecks n ys ++ moveChecks n t m ++ roomy) ls (accepted-pass n t good)
+
+    pub lists-6 : (leb 1 (length ys) && leb (length ys) mostPartitions && each (λ y. ltb y (2 ^ n)) ys) ≡ false → Lists n t ys m k out place (Lines.Refused Refusal.Partition) t out
+    lists-6 h =
+        not-listed Refusal.Partition (past-5 ∙ judged-fail (leb 1 (length ys) && leb (length ys) mostPartitions && each (λ y. ltb y (2 ^ n)) ys) 6 (moveChecks n t m ++ roomy) ls h)
+
+    module _ (right : Pass (partitionsChecks n ys)) where
+      past-6 : said ≡ judged (moveChecks n t m ++ roomy) ls
+      past-6 = past-5 ∙ judged-pass (partitionsChecks n ys) (moveChecks n t m ++ roomy) ls right
+
+      pub lists-unfit : (r : Refusal) → fitSaid n t m ≡ refuses (numberOf r) → Lists n t ys m k out place (Lines.Refused r) t out
+      lists-unfit r h = not-listed r (past-6 ∙ refuses-more (moveChecks n t m) roomy (tt {0}) ls (numberOf r) h)
+
+      module _ (fit : Pass (moveChecks n t m)) where
+        past-10 : said ≡ judged roomy ls
+        past-10 = past-6 ∙ judged-pass (moveChecks n t m) roomy ls fit
+
+        -- so what is put for the distances where there is room is listed
+        pub lists-put : {r : Lines} {t′ out′ : List ℕ} (ds : List ℕ) → ds ≡ distances n t (moved n t m) ys → Puts (moveLines k ds) t (moved n t m) out place r t′ out′ → Lists n t ys m k out place r t′ out′
+        lists-put ds e p =
+            let w : judged (roomChecks (place + length (moveLines k ds)) (length out)) (moveLines k ds) ≡ said
+            = ap (λ (l : List ℕ). judged (roomChecks (place + length (moveLines k l)) (length out)) (moveLines k l)) e ∙ sym past-10 in
+            record {
+              says = p .says ∙ ap (placeAfter place) w;
+              table = p .table ∙ ap (λ (s : Said (List ℕ)). tableThen s (moved n t m) t) w;
+              memory = p .memory ∙ ap (λ (s : Said (List ℕ)). outThen s place out) w;
+            }
+
+-- ---- lines where there is room
+module _ (ls t u out : List ℕ) (place : ℕ) where
+  abbrev fitted : Said (List ℕ)
+  fitted = judged (roomChecks (place + length ls) (length out)) ls
+
+  pub puts-11 : length out < place + length ls → Puts ls t u out place (Lines.Refused Refusal.Room) t out
+  puts-11 h =
+      let w : fitted ≡ refuses 11 = judged-fail (leb (place + length ls) (length out)) 11 [] ls (lt-leb (place + length ls) (length out) h) in
+      record {
+        says = sym (ap (placeAfter place) w);
+        table = sym (ap (λ (s : Said (List ℕ)). tableThen s u t) w);
+        memory = sym (ap (λ (s : Said (List ℕ)). outThen s place out) w);
+      }
+
+  pub puts-done : place + length ls ≤ length out → (e : ℕ) (t′ out′ : List ℕ) → e ≡ place + length ls → t′ ≡ u → out′ ≡ placed out place ls → Puts ls t u out place (Lines.To e) t′ out′
+  unfolding judged
+  puts-done h e t′ out′ a b c =
+      let w : fitted ≡ gives ls = judged-next (leb (place + length ls) (length out)) 11 [] ls (le-leb (place + length ls) (length out) h) in
+      record {
+        says = ap gives a ∙ sym (ap (placeAfter place) w);
+        table = b ∙ sym (ap (λ (s : Said (List ℕ)). tableThen s u t) w);
+        memory = c ∙ sym (ap (λ (s : Said (List ℕ)). outThen s place out) w);
+      }
+
+-- ---- one answer and one state of the lent memory
+lines-one : (a b : Lines) → linesSays a ≡ linesSays b → a ≡ b
+lines-one (Lines.To j) (Lines.To k) h = let e : j ≡ k = cc in ap Lines.To e
+lines-one (Lines.To j) (Lines.Refused s) h = absurd (let z : _≡_ {A = ℕ} 0 1 = cc in omega arith)
+lines-one (Lines.Refused r) (Lines.To k) h = absurd (let z : _≡_ {A = ℕ} 0 1 = cc in omega arith)
+lines-one (Lines.Refused r) (Lines.Refused s) h = let e : numberOf r ≡ numberOf s = cc in ap Lines.Refused (number-one r s e)
+
+pub lists-one : (n : ℕ) (t ys : List ℕ) (m : Move) (k : ℕ) (out : List ℕ) (place : ℕ) (a b : Lines) (u v o p : List ℕ)
+    → Lists n t ys m k out place a u o → Lists n t ys m k out place b v p → (a ≡ b) × (u ≡ v) × (o ≡ p)
+lists-one n t ys m k out place a b u v o p x z = (lines-one a b (x .says ∙ sym (z .says)), x .table ∙ sym (z .table), x .memory ∙ sym (z .memory))

@@ -1,0 +1,77 @@
+-- `listing::list_tree` meets its contract. Assumes nothing.
+use mathlib.Core.Path.{sym, ap, _∙_}
+use borrow.Author.Tests.{not-true, not-false}
+use Rattle.tree.proofs.RefusalLaws.{gives-pass}
+use Rattle.moves.specs.Moves.{moveChecks}
+use Rattle.fits.specs.Bytes.{moveOf, fittedSays}
+use Rattle.judge.proofs.SaidLaws.{right-of}
+use Rattle.listing.proofs.ListsLaws.{lists-6, lists-unfit}
+use borrow.Author.Needs.{needs}
+use Rattle.listing.proofs.list_tree.Statement.{statement}
+use Rattle.listing.proofs.list_tree.Tie as tie
+
+partitions-right-requires : tie.Need-partitions-right-requires
+partitions-right-requires c κs =
+    (c .before .before .before .before .pre .0 .valid .big, c .before .before .before .before .pre .0 .few)
+
+returns : tie.Need-returns
+returns c =
+    lists-6 (c .before .before .before .before .before .before .args .n) (c .before .before .before .before .before .before .args .t .now) (c .before .before .before .before .before .before .args .ys .now) (moveOf (c .before .before .before .before .before .before .args .m)) (c .before .before .before .before .before .before .args .number) (c .before .before .before .before .before .before .args .out .now) (c .before .before .before .before .before .before .args .place) (c .before .before .before .before .before .before .pre .0) (sym (c .before .partitions-right .ensures) ∙ not-true (c .before .partitions-right .result) (c .if1 .taken))
+
+sides-requires : tie.Need-sides-requires
+sides-requires c κs = search needs
+
+slice-aggregate-fit-of : tie.Need-slice-aggregate-fit-of
+slice-aggregate-fit-of c = search needs
+
+fit-of-requires : tie.Need-fit-of-requires
+fit-of-requires c κs = search needs
+
+enum-known-fit : tie.Need-enum-known-fit
+enum-known-fit c = search needs
+
+enum-told : tie.Need-enum-told
+enum-told c = search needs
+
+slice-aggregate-list-fit : tie.Need-slice-aggregate-list-fit
+slice-aggregate-list-fit c = search needs
+
+list-fit-requires : tie.Need-list-fit-requires
+list-fit-requires c κs =
+    (record { good = c .before .before .before .before .before .before .before .before .before .before .before .before .before .before .before .before .pre .0; rows = c .before .before .before .before .before .before .before .before .before .before .before .before .before .before .before .before .pre .1; sides = c .before .before .before .before .before .before .before .before .sides .ensures; fits = gives-pass (moveChecks (c .before .before .before .before .before .before .before .before .before .before .before .before .before .before .before .before .args .n) (c .before .before .before .before .before .before .before .before .before .before .before .before .before .before .before .before .args .t .now) (moveOf (c .before .before .before .before .before .before .before .before .before .before .before .before .before .before .before .before .args .m))) tt tt (sym (c .before .before .before .before .before .fit-of .ensures) ∙ ap fittedSays (c .before .before .before .enum-told .given .1)) }, right-of (c .before .before .before .before .before .before .before .before .before .before .before .before .before .before .before .before .args .n) (c .before .before .before .before .before .before .before .before .before .before .before .before .before .before .before .before .args .ys .now) (sym (c .before .before .before .before .before .before .before .before .before .before .before .partitions-right .ensures) ∙ not-false (c .before .before .before .before .before .before .before .before .before .before .before .partitions-right .result) (c .before .before .before .before .before .before .before .before .before .before .if1 .left)))
+
+same-length : tie.Need-same-length
+same-length c = search needs
+
+returns-2 : tie.Need-returns-2
+returns-2 c =
+    lists-unfit (c .before .before .before .before .before .before .before .before .before .before .before .before .before .before .args .n) (c .before .before .before .before .before .before .before .before .before .before .before .before .before .before .args .t .now) (c .before .before .before .before .before .before .before .before .before .before .before .before .before .before .args .ys .now) (moveOf (c .before .before .before .before .before .before .before .before .before .before .before .before .before .before .args .m)) (c .before .before .before .before .before .before .before .before .before .before .before .before .before .before .args .number) (c .before .before .before .before .before .before .before .before .before .before .before .before .before .before .args .out .now) (c .before .before .before .before .before .before .before .before .before .before .before .before .before .before .args .place) (c .before .before .before .before .before .before .before .before .before .before .before .before .before .before .pre .0) (right-of (c .before .before .before .before .before .before .before .before .before .before .before .before .before .before .args .n) (c .before .before .before .before .before .before .before .before .before .before .before .before .before .before .args .ys .now) (sym (c .before .before .before .before .before .before .before .before .before .partitions-right .ensures) ∙ not-false (c .before .before .before .before .before .before .before .before .before .partitions-right .result) (c .before .before .before .before .before .before .before .before .if1 .left))) _ (sym (c .before .before .before .fit-of .ensures) ∙ ap fittedSays (c .before .fit .given .1))
+
+same-length-2 : tie.Need-same-length-2
+same-length-2 c = search needs
+
+same-length-3 : tie.Need-same-length-3
+same-length-3 c = search needs
+
+returns-3 : tie.Need-returns-3
+returns-3 c =
+    c .before .before .before .before .list-fit .ensures
+
+pub list-tree-spec : {M : Type 1} → statement M
+list-tree-spec =
+    tie.close
+    (tie.spec
+    partitions-right-requires
+    returns
+    sides-requires
+    slice-aggregate-fit-of
+    fit-of-requires
+    enum-known-fit
+    enum-told
+    slice-aggregate-list-fit
+    list-fit-requires
+    same-length
+    returns-2
+    same-length-2
+    same-length-3
+    returns-3)

@@ -1,0 +1,75 @@
+-- `listing::verdicts_width` meets its contract. Assumes nothing.
+use mathlib.Core.Path.{_≡_, sym, ap, _∙_}
+use Prim.Native.Nat.{_+_, _-_, _*_, _≤_}
+use native.Mathlib.Omega.{arith}
+use lib.ListN.{length, take, getD, length-append}
+use Rattle.text.specs.Lines.{verdictLine}
+use Rattle.text.proofs.Widths.{verdict-few}
+use Rattle.listing.specs.Listing.{verdictLines}
+use Rattle.listing.proofs.LineLaws.{verdicts-none, verdicts-next, verdicts-end}
+use borrow.Author.Needs.{needs}
+use Rattle.listing.proofs.verdicts_width.Statement.{statement}
+use Rattle.listing.proofs.verdicts_width.Tie as tie
+
+abbrev Inv-loop : tie.InvT-loop
+Inv-loop m ds w₀ i₀ w i =
+    (i ≤ length ds) × (w ≡ length (verdictLines m 1 (take i ds))) × (w ≤ 80 * i)
+
+abbrev μ-loop : tie.MeasureT-loop
+μ-loop m ds w₀ i₀ w i =
+    length ds - i
+
+loop-holds : tie.Need-loop-holds Inv-loop μ-loop
+loop-holds c =
+    (omega arith, sym (ap length (verdicts-none (c .before .args .m) (c .before .args .ds .now))), omega arith)
+
+add-verdict-width : tie.Need-add-verdict-width Inv-loop μ-loop
+add-verdict-width c = search needs
+
+mul-verdict-width : tie.Need-mul-verdict-width Inv-loop μ-loop
+mul-verdict-width c = search needs
+
+shared-slice-read-verdict-width : tie.Need-shared-slice-read-verdict-width Inv-loop μ-loop
+shared-slice-read-verdict-width c = search needs
+
+verdict-width-requires : tie.Need-verdict-width-requires Inv-loop μ-loop
+verdict-width-requires c κs = search needs
+
+add-w : tie.Need-add-w Inv-loop μ-loop
+add-w c =
+    record { fits = omega (arith, c .verdict-width .ensures, verdict-few (c .before .before .before .before .before .args .m) (c .before .before .before .loop .i + 1) (getD (c .before .before .before .before .before .args .ds .now) (c .before .before .before .loop .i) 0) (c .before .before .before .before .before .fits .m .fits) (omega (arith, c .before .before .loop-test .taken, c .before .before .before .before .before .pre)) (omega (arith, c .before .shared-slice-known2 .given (c .before .before .before .loop .i))), c .before .before .before .loop .inv .2, c .before .before .loop-test .taken, c .before .before .before .before .before .pre) }
+
+add-i : tie.Need-add-i Inv-loop μ-loop
+add-i c = search needs
+
+loop-less : tie.Need-loop-less Inv-loop μ-loop
+loop-less c = search needs
+
+loop-again : tie.Need-loop-again Inv-loop μ-loop
+loop-again c = (
+  omega (arith, c .before .before .loop-test .taken),
+  omega (arith, c .verdict-width .ensures, c .before .before .before .loop .inv .1, ap length (verdicts-next (c .before .before .before .before .before .args .m) (c .before .before .before .before .before .args .ds .now) (c .before .before .before .loop .i) (c .before .before .loop-test .taken)), length-append (verdictLines (c .before .before .before .before .before .args .m) 1 (take (c .before .before .before .loop .i) (c .before .before .before .before .before .args .ds .now))) (verdictLine (c .before .before .before .before .before .args .m) (c .before .before .before .loop .i + 1) (getD (c .before .before .before .before .before .args .ds .now) (c .before .before .before .loop .i) 0))),
+  omega (arith, c .verdict-width .ensures, verdict-few (c .before .before .before .before .before .args .m) (c .before .before .before .loop .i + 1) (getD (c .before .before .before .before .before .args .ds .now) (c .before .before .before .loop .i) 0) (c .before .before .before .before .before .fits .m .fits) (omega (arith, c .before .before .loop-test .taken, c .before .before .before .before .before .pre)) (omega (arith, c .before .shared-slice-known2 .given (c .before .before .before .loop .i))), c .before .before .before .loop .inv .2),
+)
+
+returns : tie.Need-returns Inv-loop μ-loop
+returns c =
+    let e : c .before .loop .i ≡ length (c .before .before .before .args .ds .now) = omega (arith, c .before .loop .inv .0, c .loop-test .left) in
+    (c .before .loop .inv .1 ∙ ap length (verdicts-end (c .before .before .before .args .m) (c .before .before .before .args .ds .now) (c .before .loop .i) e), omega (arith, c .before .loop .inv .2, e, c .before .before .before .pre))
+
+pub verdicts-width-spec : {M : Type 1} → statement M
+verdicts-width-spec =
+    tie.close
+    (tie.spec
+    Inv-loop
+    μ-loop
+    loop-holds
+    add-verdict-width
+    mul-verdict-width
+    shared-slice-read-verdict-width
+    verdict-width-requires
+    add-w
+    add-i
+    loop-less
+    loop-again
+    returns)

@@ -1,0 +1,168 @@
+// One move's lines, written into a lent output from a place on, and the move made on the lent table.
+ghost use Prim.Native.Nat.{_*_, _≤_};
+ghost use mathlib.Core.Path.{_≡_};
+ghost use lib.ListN.{length};
+ghost use Rattle.taxa.specs.Most.{mostPartitions};
+ghost use Rattle.tree.specs.Refusals.{Accepted, partitionsChecks};
+ghost use Rattle.tree.proofs.RefusalLaws.{Pass};
+ghost use Rattle.near.specs.Near.{Near};
+ghost use Rattle.text.specs.Lines.{putFirst};
+ghost use Rattle.rules.specs.Each.{zeros};
+ghost use Rattle.moves.specs.Moves.{moved};
+ghost use Rattle.fits.specs.Bytes.{moveOf};
+ghost use Rattle.judge.specs.Promises.{Fit};
+ghost use Rattle.listing.specs.Listing.{verdictLines, moveLines, Puts, Lists};
+use fits::Fitted;
+use fits::Move;
+use table::Checked;
+use table::Refusal;
+
+// The answer of a move's lines: the place after them.
+pub enum Lines {
+    To(usize),
+    Refused(Refusal),
+}
+
+// How many bytes the verdict lines of move m take, a line for each distance.
+fn verdicts_width(m: u64, ds: &[u64]) -> usize
+    requires { ⌜ length (now ds) ≤ mostPartitions ⌝ }
+    ensures { λ r. ⌜ (r ≡ length (verdictLines m 1 (now (ds .entry)))) × (r ≤ 80 * mostPartitions) ⌝ }
+{
+    let mut w: usize = 0;
+    let mut i: usize = 0;
+    while i < ds.len() {
+        let k = text::verdict_width(m, (i + 1) as u64, ds[i]);
+        w += k;
+        i += 1;
+    }
+    w
+}
+
+// How many bytes the lines of move m take, where same of the distances are 0.
+fn lines_width(m: u64, ds: &[u64], same: usize) -> usize
+    requires { ⌜ (length (now ds) ≤ mostPartitions) × (same ≡ zeros (now ds)) ⌝ }
+    ensures { λ r. ⌜ r ≡ length (moveLines m (now (ds .entry))) ⌝ }
+{
+    let w = verdicts_width(m, ds);
+    let k = text::saved_width(m, same as u64, ds.len() as u64);
+    w + k
+}
+
+// Writes the verdict lines of move m at the start of out; how many bytes.
+fn put_verdicts(m: u64, ds: &[u64], out: &mut [u8]) -> usize
+    requires { ⌜ (length (now ds) ≤ mostPartitions) × (length (verdictLines m 1 (now ds)) ≤ length (now out)) ⌝ }
+    ensures { λ r. ⌜ (r ≡ length (verdictLines m 1 (now (ds .entry)))) × (now (out .exit) ≡ putFirst (verdictLines m 1 (now (ds .entry))) (now (out .entry))) × (r ≤ 80 * mostPartitions) ⌝ }
+{
+    let mut e: usize = 0;
+    let mut i: usize = 0;
+    while i < ds.len() {
+        let k = text::verdict_line(m, (i + 1) as u64, ds[i], &mut out[e..]);
+        e += k;
+        i += 1;
+    }
+    e
+}
+
+// Writes the lines of move m at the start of out; how many bytes.
+fn put_lines(m: u64, ds: &[u64], same: usize, out: &mut [u8]) -> usize
+    requires { ⌜ (length (now ds) ≤ mostPartitions) × (same ≡ zeros (now ds)) × (length (moveLines m (now ds)) ≤ length (now out)) ⌝ }
+    ensures { λ r. ⌜ (r ≡ length (moveLines m (now (ds .entry)))) × (now (out .exit) ≡ putFirst (moveLines m (now (ds .entry))) (now (out .entry))) ⌝ }
+{
+    let e = put_verdicts(m, ds, out);
+    let k = text::saved_line(m, same as u64, ds.len() as u64, &mut out[e..]);
+    e + k
+}
+
+// Writes the lines of move m from the place on and rewrites its rows, where the lines fit: refusal 11.
+fn put_where_room(
+    n: usize,
+    t: &mut [u8],
+    near: &[u8],
+    s: &[u64],
+    m: Move,
+    number: u64,
+    ds: &[u64],
+    same: usize,
+    out: &mut [u8],
+    place: usize,
+) -> Lines
+    requires { ⌜ (Fit n (now t) (now near) (now s) (moveOf m)) × (length (now ds) ≤ mostPartitions) × (same ≡ zeros (now ds)) ⌝ }
+    ensures { λ r. ⌜ Puts (moveLines number (now (ds .entry))) (now (t .entry)) (moved n (now (t .entry)) (moveOf m)) (now (out .entry)) place r (now (t .exit)) (now (out .exit)) ⌝ }
+{
+    let k = lines_width(number, ds, same);
+    if out.len() < place {
+        return Lines::Refused(Refusal::Room);
+    }
+    if out.len() - place < k {
+        return Lines::Refused(Refusal::Room);
+    }
+    judge::rewrite_rows(n, t, near, s, m);
+    put_lines(number, ds, same, &mut out[place..]);
+    Lines::To(place + k)
+}
+
+// The lines of a tree's move that fits, where the partitions are right: refusal 11.
+fn list_fit(
+    n: usize,
+    t: &mut [u8],
+    near: &[u8],
+    s: &[u64],
+    ys: &[u64],
+    m: Move,
+    number: u64,
+    out: &mut [u8],
+    place: usize,
+) -> Lines
+    requires { ⌜ (Fit n (now t) (now near) (now s) (moveOf m)) × (Pass (partitionsChecks n (now ys))) ⌝ }
+    ensures { λ r. ⌜ Lists n (now (t .entry)) (now (ys .entry)) (moveOf m) number (now (out .entry)) place r (now (t .exit)) (now (out .exit)) ⌝ }
+{
+    let mut ds = [0u64; judge::PARTITIONS];
+    let same = judge::judge_groups(n, t, near, s, ys, m, &mut ds);
+    put_where_room(n, t, near, s, m, number, &ds[..ys.len()], same, out, place)
+}
+
+// The lines of a tree's move: refusals 6 to 11.
+fn list_tree(
+    n: usize,
+    t: &mut [u8],
+    near: &[u8],
+    ys: &[u64],
+    m: Move,
+    number: u64,
+    out: &mut [u8],
+    place: usize,
+) -> Lines
+    requires { ⌜ (Accepted n (now t)) × (Near n (now t) (now near)) ⌝ }
+    ensures { λ r. ⌜ Lists n (now (t .entry)) (now (ys .entry)) (moveOf m) number (now (out .entry)) place r (now (t .exit)) (now (out .exit)) ⌝ }
+{
+    if !judge::partitions_right(n, ys) {
+        return Lines::Refused(Refusal::Partition);
+    }
+    let s = sides::sides(n, t, near);
+    let fit = fits::fit_of(n, t, &s, m);
+    match fit {
+        Fitted::Refused(r) => Lines::Refused(r),
+        Fitted::Fits => list_fit(n, t, near, &s, ys, m, number, out, place),
+    }
+}
+
+// Makes a move on a table and writes its lines, under the number stated, into out from the place on. Refusals 1 to 11.
+pub fn list_move(
+    n: usize,
+    t: &mut [u8],
+    ys: &[u64],
+    m: Move,
+    number: u64,
+    out: &mut [u8],
+    place: usize,
+) -> Lines
+    ensures { λ r. ⌜ Lists n (now (t .entry)) (now (ys .entry)) (moveOf m) number (now (out .entry)) place r (now (t .exit)) (now (out .exit)) ⌝ }
+{
+    let l = near::look(n, t);
+    let near = l.near;
+    let answer = l.answer;
+    match answer {
+        Checked::Refused(r) => Lines::Refused(r),
+        Checked::Tree => list_tree(n, t, &near, ys, m, number, out, place),
+    }
+}

@@ -1,0 +1,41 @@
+-- `text::number` meets its contract. Assumes nothing.
+use mathlib.Core.Path.{ap, _∙_}
+use native.Mathlib.Omega.{arith}
+use lib.ListN.{length}
+use Rattle.text.specs.Lines.{decimal}
+use Rattle.text.proofs.Widths.{fewest-decimal}
+use Rattle.text.proofs.Placing.{copied}
+use borrow.Author.Needs.{needs}
+use Rattle.text.proofs.number.Statement.{statement}
+use Rattle.text.proofs.number.Tie as tie
+
+decimal-requires : tie.Need-decimal-requires
+decimal-requires c κs = search needs
+
+array-share-prefix-digits : tie.Need-array-share-prefix-digits
+array-share-prefix-digits c = search needs
+
+slice-aggregate-copy : tie.Need-slice-aggregate-copy
+slice-aggregate-copy c = search needs
+
+copy-requires : tie.Need-copy-requires
+copy-requires c κs =
+    omega (arith, ap length (c .before .before .decimal .ensures .1 .1 ∙ fewest-decimal (c .before .before .before .before .before .args .n) _ (c .before .before .decimal .ensures .1 .0)))
+
+same-length : tie.Need-same-length
+same-length c = search needs
+
+returns : tie.Need-returns
+returns c =
+    copied _ (decimal (c .before .before .before .before .before .before .before .before .args .n)) _ (c .before .before .before .before .before .decimal .ensures .1 .1 ∙ fewest-decimal (c .before .before .before .before .before .before .before .before .args .n) _ (c .before .before .before .before .before .decimal .ensures .1 .0)) (c .before .before .copy .ensures .0) (c .before .before .copy .ensures .1)
+
+pub number-spec : {M : Type 1} → statement M
+number-spec =
+    tie.close
+    (tie.spec
+    decimal-requires
+    array-share-prefix-digits
+    slice-aggregate-copy
+    copy-requires
+    same-length
+    returns)

@@ -1,0 +1,40 @@
+-- `text::then_number` meets its contract. Assumes nothing.
+use Rattle.text.specs.Lines.{decimal}
+use Rattle.text.proofs.Placing.{back}
+use borrow.Author.Needs.{needs}
+use Rattle.text.proofs.then_number.Statement.{statement}
+use Rattle.text.proofs.then_number.Tie as tie
+
+sub-number : tie.Need-sub-number
+sub-number c = search needs
+
+part-number-start : tie.Need-part-number-start
+part-number-start c = search needs
+
+part-number-end : tie.Need-part-number-end
+part-number-end c = search needs
+
+number-requires : tie.Need-number-requires
+number-requires c κs = search needs
+
+add-result : tie.Need-add-result
+add-result c = search needs
+
+same-length : tie.Need-same-length
+same-length c = search needs
+
+returns : tie.Need-returns
+returns c =
+    back (c .before .before .before .before .before .args .out .now) (c .before .before .before .before .before .args .at) (decimal (c .before .before .before .before .before .args .n)) (c .before .before .before .before .before .pre) (c .before .before .number .ensures)
+
+pub then-number-spec : {M : Type 1} → statement M
+then-number-spec =
+    tie.close
+    (tie.spec
+    sub-number
+    part-number-start
+    part-number-end
+    number-requires
+    add-result
+    same-length
+    returns)

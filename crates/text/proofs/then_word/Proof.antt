@@ -1,0 +1,33 @@
+-- `text::then_word` meets its contract. Assumes nothing.
+use mathlib.Core.Path.{refl}
+use Rattle.text.proofs.Placing.{copied, back}
+use borrow.Author.Needs.{needs}
+use Rattle.text.proofs.then_word.Statement.{statement}
+use Rattle.text.proofs.then_word.Tie as tie
+
+sub-copy : tie.Need-sub-copy
+sub-copy c = search needs
+
+part-copy-start : tie.Need-part-copy-start
+part-copy-start c = search needs
+
+part-copy-end : tie.Need-part-copy-end
+part-copy-end c = search needs
+
+copy-requires : tie.Need-copy-requires
+copy-requires c κs = search needs
+
+add-result : tie.Need-add-result
+add-result c = search needs
+
+same-length : tie.Need-same-length
+same-length c = search needs
+
+returns : tie.Need-returns
+returns c =
+    back (c .before .before .before .before .before .before .args .out .now) (c .before .before .before .before .before .before .args .at) (c .before .before .before .before .before .before .args .w .now) (c .before .before .before .before .before .before .pre) (copied (c .before .before .before .before .before .before .args .w .now) (c .before .before .before .before .before .before .args .w .now) _ refl (c .before .before .copy .ensures .0) (c .before .before .copy .ensures .1))
+
+pub then-word-spec : {M : Type 1} → statement M
+then-word-spec =
+    tie.close
+    (tie.spec sub-copy part-copy-start part-copy-end copy-requires add-result same-length returns)
