@@ -118,7 +118,7 @@ fn read_table(job: &[u8], at: usize, n: usize, table: &mut [u8]) -> Stepped
             place: at,
         };
     }
-    let l = 2 * (2 * n - 3);
+    let l = table_bytes(n);
     if fields::stated(job, at) != l {
         return Stepped::Refused {
             why: Refusal::Length,
@@ -156,18 +156,21 @@ fn read_partition(job: &[u8], s: State, parts: &mut [u64]) -> Stepped
             place: at,
         };
     }
-    if parts.len() <= c {
+    let free = parts.len() - c;
+    if free == 0 {
         return Stepped::Refused {
             why: Refusal::Room,
             place: at,
         };
     }
     parts[c] = y;
+    let next = at + 11;
+    let count = c + 1;
     Stepped::Next {
         state: State {
-            at: at + 11,
+            at: next,
             taxa: n,
-            parts: c + 1,
+            parts: count,
             moves: s.moves,
         },
         wrote: 0,
@@ -304,7 +307,7 @@ fn state_right(s: State, table: usize, parts: usize) -> Fitted
     if !four_after_start(at, at) {
         return Fitted::Refused(Refusal::Field);
     }
-    if 65535 < s.moves {
+    if (LONGEST as u64) < s.moves {
         return Fitted::Refused(Refusal::Field);
     }
     Fitted::Fits

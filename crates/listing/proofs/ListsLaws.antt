@@ -1,13 +1,13 @@
 -- What the call for a move's lines says at each test of the code. Assumes nothing.
 use mathlib.Core.Path.{_≡_, sym, ap, _∙_}
-use mathlib.Core.Bool.{false, _&&_}
+use mathlib.Core.Bool.{Bool, true, false, _&&_}
 use mathlib.Core.List.{List, [], _++_}
 use Prim.Native.Nat.{ℕ, _+_, _^_, _≤_, _<_}
 use native.Mathlib.Omega.{arith}
 use lib.Dec.{ltb, leb}
 use lib.ListN.{length}
-use borrow.Author.Tests.{le-leb, lt-leb}
 use Rattle.taxa.specs.Most.{mostPartitions}
+use Rattle.taxa.specs.Sets.{pick}
 use Rattle.tree.specs.Splits.{distances}
 use Rattle.tree.specs.Refusals.{Check, Said, gives, refuses, judged, treeChecks, partitionsChecks, roomChecks, each, treeSaid, Accepted}
 use Rattle.tree.proofs.RefusalLaws.{Pass, judged-pass, judged-next, judged-fail, refuses-more, accepted-pass}
@@ -75,24 +75,26 @@ module _ (ls t u out : List ℕ) (place : ℕ) where
   abbrev fitted : Said (List ℕ)
   fitted = judged (roomChecks (place + length ls) (length out)) ls
 
-  pub puts-11 : length out < place + length ls → Puts ls t u out place (Lines.Refused Refusal.Room) t out
-  puts-11 h =
-      let w : fitted ≡ refuses 11 = judged-fail (leb (place + length ls) (length out)) 11 [] ls (lt-leb (place + length ls) (length out) h) in
-      record {
-        says = sym (ap (placeAfter place) w);
-        table = sym (ap (λ (s : Said (List ℕ)). tableThen s u t) w);
-        memory = sym (ap (λ (s : Said (List ℕ)). outThen s place out) w);
-      }
+  -- b says whether the lines fit, and the table is moved exactly where they do
+  module _ (b : Bool) (asked : b ≡ leb (place + length ls) (length out)) where
+    pub puts-11 : b ≡ false → (t′ : List ℕ) → t′ ≡ pick b u t → Puts ls t u out place (Lines.Refused Refusal.Room) t′ out
+    puts-11 h t′ e =
+        let w : fitted ≡ refuses 11 = judged-fail (leb (place + length ls) (length out)) 11 [] ls (sym asked ∙ h) in
+        record {
+          says = sym (ap (placeAfter place) w);
+          table = e ∙ ap (λ (c : Bool). pick c u t) h ∙ sym (ap (λ (s : Said (List ℕ)). tableThen s u t) w);
+          memory = sym (ap (λ (s : Said (List ℕ)). outThen s place out) w);
+        }
 
-  pub puts-done : place + length ls ≤ length out → (e : ℕ) (t′ out′ : List ℕ) → e ≡ place + length ls → t′ ≡ u → out′ ≡ placed out place ls → Puts ls t u out place (Lines.To e) t′ out′
-  unfolding judged
-  puts-done h e t′ out′ a b c =
-      let w : fitted ≡ gives ls = judged-next (leb (place + length ls) (length out)) 11 [] ls (le-leb (place + length ls) (length out) h) in
-      record {
-        says = ap gives a ∙ sym (ap (placeAfter place) w);
-        table = b ∙ sym (ap (λ (s : Said (List ℕ)). tableThen s u t) w);
-        memory = c ∙ sym (ap (λ (s : Said (List ℕ)). outThen s place out) w);
-      }
+    pub puts-done : b ≡ true → (k : ℕ) (t′ out′ : List ℕ) → k ≡ place + length ls → t′ ≡ pick b u t → out′ ≡ placed out place ls → Puts ls t u out place (Lines.To k) t′ out′
+    unfolding judged
+    puts-done h k t′ out′ to e o =
+        let w : fitted ≡ gives ls = judged-next (leb (place + length ls) (length out)) 11 [] ls (sym asked ∙ h) in
+        record {
+          says = ap gives to ∙ sym (ap (placeAfter place) w);
+          table = e ∙ ap (λ (c : Bool). pick c u t) h ∙ sym (ap (λ (s : Said (List ℕ)). tableThen s u t) w);
+          memory = o ∙ sym (ap (λ (s : Said (List ℕ)). outThen s place out) w);
+        }
 
 -- ---- one answer and one state of the lent memory
 lines-one : (a b : Lines) → linesSays a ≡ linesSays b → a ≡ b

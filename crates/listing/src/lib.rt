@@ -1,8 +1,10 @@
 // One move's lines, written into a lent output from a place on, and the move made on the lent table.
-ghost use Prim.Native.Nat.{_*_, _≤_};
+ghost use Prim.Native.Nat.{_+_, _*_, _≤_};
 ghost use mathlib.Core.Path.{_≡_};
+ghost use lib.Dec.{leb};
 ghost use lib.ListN.{length};
 ghost use Rattle.taxa.specs.Most.{mostPartitions};
+ghost use Rattle.taxa.specs.Sets.{pick};
 ghost use Rattle.tree.specs.Refusals.{Accepted, partitionsChecks};
 ghost use Rattle.tree.proofs.RefusalLaws.{Pass};
 ghost use Rattle.near.specs.Near.{Near};
@@ -73,6 +75,29 @@ fn put_lines(m: u64, ds: &[u64], same: usize, out: &mut [u8]) -> usize
     e + k
 }
 
+// Whether k bytes fit into so much room from the place on.
+fn has_room(room: usize, place: usize, k: usize) -> bool
+    ensures { λ b. ⌜ b ≡ leb (place + k) room ⌝ }
+{
+    if room < place {
+        return false;
+    }
+    if room - place < k {
+        return false;
+    }
+    true
+}
+
+// Rewrites the rows of a move where its lines fit; else the tree stays.
+fn move_where(fits: bool, n: usize, t: &mut [u8], near: &[u8], s: &[u64], m: Move)
+    requires { ⌜ Fit n (now t) (now near) (now s) (moveOf m) ⌝ }
+    ensures { λ _. ⌜ now (t .exit) ≡ pick fits (moved n (now (t .entry)) (moveOf m)) (now (t .entry)) ⌝ }
+{
+    if fits {
+        judge::rewrite_rows(n, t, near, s, m);
+    }
+}
+
 // Writes the lines of move m from the place on and rewrites its rows, where the lines fit: refusal 11.
 fn put_where_room(
     n: usize,
@@ -90,13 +115,11 @@ fn put_where_room(
     ensures { λ r. ⌜ Puts (moveLines number (now (ds .entry))) (now (t .entry)) (moved n (now (t .entry)) (moveOf m)) (now (out .entry)) place r (now (t .exit)) (now (out .exit)) ⌝ }
 {
     let k = lines_width(number, ds, same);
-    if out.len() < place {
+    let fits = has_room(out.len(), place, k);
+    move_where(fits, n, t, near, s, m);
+    if !fits {
         return Lines::Refused(Refusal::Room);
     }
-    if out.len() - place < k {
-        return Lines::Refused(Refusal::Room);
-    }
-    judge::rewrite_rows(n, t, near, s, m);
     put_lines(number, ds, same, &mut out[place..]);
     Lines::To(place + k)
 }

@@ -28,6 +28,9 @@ returns-2 : tie.Need-returns-2
 returns-2 c =
     part-6 (c .before .before .before .before .before .before .before .args .job .now) (c .before .before .before .before .before .before .before .args .s) (c .before .before .before .before .before .before .before .args .parts .now) (sym (c .before .before .before .before .length-right .ensures) ∙ not-false (c .before .before .before .before .length-right .result) (c .before .before .before .if1 .left)) _ (c .before .before .number-in .ensures) (sym (c .before .within .ensures) ∙ not-true (c .before .within .result) (c .if2 .taken))
 
+sub-free : tie.Need-sub-free
+sub-free c = search needs
+
 returns-3 : tie.Need-returns-3
 returns-3 c =
     part-11 (c .before .before .before .before .before .before .before .before .args .job .now) (c .before .before .before .before .before .before .before .before .args .s) (c .before .before .before .before .before .before .before .before .args .parts .now) (sym (c .before .before .before .before .before .length-right .ensures) ∙ not-false (c .before .before .before .before .before .length-right .result) (c .before .before .before .before .if1 .left)) _ (c .before .before .before .number-in .ensures) (sym (c .before .before .within .ensures) ∙ not-false (c .before .before .within .result) (c .before .if2 .left)) (c .before .before .before .before .before .before .before .before .pre .3) (search needs)
@@ -38,11 +41,11 @@ mul-parts c = search needs
 slice-write-parts : tie.Need-slice-write-parts
 slice-write-parts c = search needs
 
-add-t11 : tie.Need-add-t11
-add-t11 c = search needs
+add-next : tie.Need-add-next
+add-next c = search needs
 
-add-t15 : tie.Need-add-t15
-add-t15 c = search needs
+add-count : tie.Need-add-count
+add-count c = search needs
 
 same-length : tie.Need-same-length
 same-length c = search needs
@@ -61,10 +64,11 @@ read-partition-spec =
     number-in-requires
     within-requires
     returns-2
+    sub-free
     returns-3
     mul-parts
     slice-write-parts
-    add-t11
-    add-t15
+    add-next
+    add-count
     same-length
     returns-4)

@@ -14,25 +14,19 @@ returns : tie.Need-returns
 returns c =
     table-12 (c .before .before .before .args .job .now) (c .before .before .before .args .at) (c .before .before .before .args .n) (c .before .before .before .args .table .now) (search needs)
 
-mul-l : tie.Need-mul-l
-mul-l c = search needs
-
-sub-l : tie.Need-sub-l
-sub-l c = search needs
-
-mul-l-2 : tie.Need-mul-l-2
-mul-l-2 c = search needs
+table-bytes-requires : tie.Need-table-bytes-requires
+table-bytes-requires c κs = search needs
 
 stated-requires : tie.Need-stated-requires
 stated-requires c κs = search needs
 
 returns-2 : tie.Need-returns-2
 returns-2 c =
-    table-2 (c .before .before .before .before .before .args .job .now) (c .before .before .before .before .before .args .at) (c .before .before .before .before .before .args .n) (c .before .before .before .before .before .args .table .now) (search needs) (λ e. search needs)
+    table-2 (c .before .before .before .before .before .before .args .job .now) (c .before .before .before .before .before .before .args .at) (c .before .before .before .before .before .before .args .n) (c .before .before .before .before .before .before .args .table .now) (search needs) (λ e. search needs)
 
 returns-3 : tie.Need-returns-3
 returns-3 c =
-    table-cut (c .before .before .before .before .before .before .args .job .now) (c .before .before .before .before .before .before .args .at) (c .before .before .before .before .before .before .args .n) (c .before .before .before .before .before .before .args .table .now) (search needs) (search needs) (search needs)
+    table-cut (c .before .before .before .before .before .before .before .args .job .now) (c .before .before .before .before .before .before .before .args .at) (c .before .before .before .before .before .before .before .args .n) (c .before .before .before .before .before .before .before .args .table .now) (search needs) (search needs) (search needs)
 
 add-from : tie.Need-add-from
 add-from c = search needs
@@ -57,7 +51,7 @@ same-length c = search needs
 
 returns-4 : tie.Need-returns-4
 returns-4 c =
-    table-kept (c .before .before .before .before .before .before .before .before .before .before .before .args .job .now) (c .before .before .before .before .before .before .before .before .before .before .before .args .at) (c .before .before .before .before .before .before .before .before .before .before .before .args .n) (c .before .before .before .before .before .before .before .before .before .before .before .args .table .now) (search needs) (search needs) (search needs) (c .before .before .before .before .before .before .before .before .before .before .before .args .at + 3 + 2 * rows (c .before .before .before .before .before .before .before .before .before .before .before .args .n) - (c .before .before .before .before .before .before .before .before .before .before .before .args .at + 3)) (omega arith) _ _ (c .before .before .keep-table .ensures)
+    table-kept (c .before .before .before .before .before .before .before .before .before .before .before .before .args .job .now) (c .before .before .before .before .before .before .before .before .before .before .before .before .args .at) (c .before .before .before .before .before .before .before .before .before .before .before .before .args .n) (c .before .before .before .before .before .before .before .before .before .before .before .before .args .table .now) (search needs) (search needs) (search needs) (c .before .before .before .before .before .before .before .before .before .before .before .before .args .at + 3 + c .before .before .before .before .before .before .before .before .table-bytes .result - (c .before .before .before .before .before .before .before .before .before .before .before .before .args .at + 3)) (omega (arith, c .before .before .before .before .before .before .before .before .table-bytes .ensures)) _ _ (c .before .before .keep-table .ensures)
 
 pub read-table-spec : {M : Type 1} → statement M
 read-table-spec =
@@ -65,9 +59,7 @@ read-table-spec =
     (tie.spec
     sub-rest
     returns
-    mul-l
-    sub-l
-    mul-l-2
+    table-bytes-requires
     stated-requires
     returns-2
     returns-3
