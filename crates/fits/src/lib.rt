@@ -13,6 +13,7 @@ ghost use Rattle.fits.specs.Bytes.{moveOf, Usable, fittedSays, fitSaid};
 use table::Refusal;
 
 // The four bytes of a move: its kind, and three row numbers.
+#[repr(C)]
 pub struct Move {
     pub kind: u8,
     pub first: u8,

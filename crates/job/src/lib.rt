@@ -22,6 +22,7 @@ use table::Refusal;
 const LONGEST: usize = 65535;
 
 // How far a job was read: the offset of the next field, the number of taxa, how many partitions and how many moves were read.
+#[repr(C)]
 pub struct State {
     pub at: usize,
     pub taxa: usize,

@@ -1,0 +1,19 @@
+-- `tusvlane::refused` meets its contract. Assumes nothing.
+use mathlib.Core.Path.{ap}
+use Rattle.tree.specs.Refusals.{refuses}
+use Rattle.tusvlane.specs.Answers.{answerOf}
+use borrow.Author.Needs.{needs}
+use Rattle.tusvlane.proofs.refused.Statement.{statement}
+use Rattle.tusvlane.proofs.refused.Tie as tie
+
+number-requires : tie.Need-number-requires
+number-requires c κs = search needs
+
+cast-k : tie.Need-cast-k
+cast-k c = search needs
+
+returns : tie.Need-returns
+returns c = ap (λ x. answerOf (refuses x)) (c .number .ensures)
+
+pub refused-spec : {M : Type 1} → statement M
+refused-spec = tie.close (tie.spec number-requires cast-k returns)

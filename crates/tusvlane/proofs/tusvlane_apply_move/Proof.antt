@@ -1,0 +1,47 @@
+-- `tusvlane::tusvlane_apply_move` meets its contract. Assumes nothing.
+use mathlib.Core.Path.{refl}
+use Rattle.tusvlane.proofs.AnswerLaws.{apply-code}
+use borrow.Author.Needs.{needs}
+use Rattle.tusvlane.proofs.tusvlane_apply_move.Statement.{statement}
+use Rattle.tusvlane.proofs.tusvlane_apply_move.Tie as tie
+
+apply-move-requires : tie.Need-apply-move-requires
+apply-move-requires c κs = search needs
+
+enum-told : tie.Need-enum-told
+enum-told c = search needs
+
+enum-known-r : tie.Need-enum-known-r
+enum-known-r c = search needs
+
+number-requires : tie.Need-number-requires
+number-requires c κs = search needs
+
+cast-result : tie.Need-cast-result
+cast-result c = search needs
+
+same-length : tie.Need-same-length
+same-length c = search needs
+
+returns : tie.Need-returns
+returns c = apply-code (c .before .before .before .before .apply-move .ensures) (c .enum-told .given .1) refl
+
+same-length-2 : tie.Need-same-length-2
+same-length-2 c = search needs
+
+returns-2 : tie.Need-returns-2
+returns-2 c = apply-code (c .before .before .before .before .before .before .apply-move .ensures) (c .before .before .r .given .1) (c .number .ensures)
+
+pub tusvlane-apply-move-spec : {M : Type 1} → statement M
+tusvlane-apply-move-spec =
+    tie.close
+    (tie.spec
+    apply-move-requires
+    enum-told
+    enum-known-r
+    number-requires
+    cast-result
+    same-length
+    returns
+    same-length-2
+    returns-2)

@@ -1,0 +1,41 @@
+-- `tusvlane::tusvlane_compare` meets its contract. Assumes nothing.
+use mathlib.Core.Path.{refl, ap}
+use Rattle.tree.specs.Refusals.{refuses}
+use Rattle.tusvlane.specs.Answers.{comparisonOf}
+use Rattle.tusvlane.proofs.AnswerLaws.{compare-answer}
+use borrow.Author.Needs.{needs}
+use Rattle.tusvlane.proofs.tusvlane_compare.Statement.{statement}
+use Rattle.tusvlane.proofs.tusvlane_compare.Tie as tie
+
+compare-requires : tie.Need-compare-requires
+compare-requires c κs = search needs
+
+enum-known-r : tie.Need-enum-known-r
+enum-known-r c = search needs
+
+number-requires : tie.Need-number-requires
+number-requires c κs = search needs
+
+cast-t11 : tie.Need-cast-t11
+cast-t11 c = search needs
+
+enum-known-d : tie.Need-enum-known-d
+enum-known-d c = search needs
+
+returns : tie.Need-returns
+returns c = compare-answer (c .before .before .before .before .compare .ensures) (c .before .before .r .given .1) (ap (λ x. comparisonOf (refuses x)) (c .number .ensures))
+
+returns-2 : tie.Need-returns-2
+returns-2 c = compare-answer (c .before .before .before .compare .ensures) (c .before .d .given .1) refl
+
+pub tusvlane-compare-spec : {M : Type 1} → statement M
+tusvlane-compare-spec =
+    tie.close
+    (tie.spec
+    compare-requires
+    enum-known-r
+    number-requires
+    cast-t11
+    enum-known-d
+    returns
+    returns-2)

@@ -1,0 +1,210 @@
+/* Tusvlane: which gene partitions must be scored again after a tree
+ * rearrangement.
+ *
+ * What every function keeps to
+ *
+ * - Each takes any numbers, and any pointer with a length that C allows: so
+ *   many bytes or numbers can be read there, and written where the pointer is
+ *   not to const. Where the length is 0 the pointer is not used.
+ * - What is lent to be written overlaps nothing else that is lent to the same
+ *   call. `restrict` says so below.
+ * - Each ends, and gives its answer or a refusal. `refusal` is 0 when the call
+ *   is accepted. Otherwise it is one of the numbers below, and every other
+ *   number of the answer is 0, but for the place of tusvlane_step.
+ * - A refused call leaves every lent byte as it was. An accepted one writes
+ *   what its description says and nothing else.
+ * - Checks run in the order of the refusal numbers 1 to 11. Of two trees the
+ *   first is checked wholly, then the second.
+ * - No function keeps memory, calls for any, or has a state of its own, so
+ *   that any number of threads may call.
+ */
+#ifndef TUSVLANE_H
+#define TUSVLANE_H
+
+#include <stddef.h>
+#include <stdint.h>
+
+#ifdef __cplusplus
+#define TUSVLANE_LENT
+extern "C" {
+#else
+#define TUSVLANE_LENT restrict
+#endif
+
+/* The refusals. */
+enum {
+    /* The number of taxa is not from 4 to 64. */
+    TUSVLANE_COUNT = 1,
+    /* The table is not 2(2n-3) bytes long. */
+    TUSVLANE_LENGTH = 2,
+    /* A row has an end above 2n-3, or its first end is not the smaller. */
+    TUSVLANE_ENDS = 3,
+    /* A node is at the wrong number of rows. */
+    TUSVLANE_DEGREE = 4,
+    /* A node cannot be reached from node 0. */
+    TUSVLANE_UNREACHED = 5,
+    /* A partition names a taxon n or above; or a list of partitions is empty
+     * or longer than 64. */
+    TUSVLANE_PARTITION = 6,
+    /* The kind of a move is not from 1 to 3, or the last byte of an SPR is
+     * not 0. */
+    TUSVLANE_KIND = 7,
+    /* A row number that the move uses is above 2n-4. */
+    TUSVLANE_ROW = 8,
+    /* The rows do not fit the move. */
+    TUSVLANE_MISFIT = 9,
+    /* An SPR or TBR in which no end moves. */
+    TUSVLANE_IDLE = 10,
+    /* The lent output is too short for the whole answer. */
+    TUSVLANE_ROOM = 11,
+    /* A field of a job is wrong: its tag, its order or its length, or it is
+     * cut short. */
+    TUSVLANE_FIELD = 12,
+    /* A job is longer than 65,535 bytes. */
+    TUSVLANE_LONG = 13
+};
+
+/* A tree of n taxa is a table of 2n-3 rows, two bytes a row: the two end nodes
+ * of one edge, the smaller first. Nodes 0 to n-1 are the taxa, n to 2n-3 the
+ * inner nodes.
+ *
+ * A partition is a set of taxa: bit i stands for taxon i. */
+
+/* A move: 1 for NNI, 2 for SPR, 3 for TBR, then three row numbers. The last of
+ * an SPR is 0. */
+typedef struct {
+    uint8_t kind;
+    uint8_t first;
+    uint8_t second;
+    uint8_t third;
+} tusvlane_move;
+
+/* A refusal or 0, and one number, which each function below names. */
+typedef struct {
+    uint64_t refusal;
+    uint64_t value;
+} tusvlane_answer;
+
+/* A refusal or 0; the distance; and the smallest number on the first tree's
+ * list of splits that the second tree's lacks, or 0 when none is lacking. */
+typedef struct {
+    uint64_t refusal;
+    uint64_t distance;
+    uint64_t missing;
+} tusvlane_comparison;
+
+/* How far a job was read: the offset of the next field, the number of taxa,
+ * how many partitions and how many moves were read. */
+typedef struct {
+    size_t at;
+    size_t taxa;
+    size_t parts;
+    uint64_t moves;
+} tusvlane_state;
+
+/* The answer of a step over one field of a job.
+ *
+ * - A refusal: `refusal` is its number and `place` its place in the job.
+ * - The end of the job: `ended` is 1.
+ * - Otherwise `next` is the state for the next step, and `wrote` is how many
+ *   bytes of lines stand at the start of the output.
+ *
+ * All that is not named is 0. */
+typedef struct {
+    uint64_t refusal;
+    uint64_t ended;
+    size_t place;
+    size_t wrote;
+    tusvlane_state next;
+} tusvlane_stepped;
+
+/* Is the table a tree of n taxa? 0, or a refusal from 1 to 5. */
+uint32_t tusvlane_check_tree(size_t n, const uint8_t *table,
+                             size_t table_bytes);
+
+/* Writes the splits that the tree induces over the partition, ascending, to
+ * the start of `out`. A split is written as the bits of its side that does not
+ * hold the lowest taxon of the partition. `value` is how many there are: 2k-3
+ * for k taxa, k being 3 or more; 1 for 2 taxa; else 0.
+ * Refusals 1 to 6 and 11. */
+tusvlane_answer tusvlane_induced_splits(size_t n, const uint8_t *table,
+                                        size_t table_bytes,
+                                        uint64_t partition,
+                                        uint64_t *TUSVLANE_LENT out,
+                                        size_t out_numbers);
+
+/* How far apart two trees of n taxa are over the partition: how many splits
+ * are on one of their two lists alone. Refusals 1 to 6. */
+tusvlane_comparison tusvlane_compare(size_t n, const uint8_t *first,
+                                     size_t first_bytes,
+                                     const uint8_t *second,
+                                     size_t second_bytes,
+                                     uint64_t partition);
+
+/* Makes the move: writes the rows that it changes. 0, or a refusal from 1 to 5
+ * and 7 to 10. */
+uint32_t tusvlane_apply_move(size_t n, uint8_t *TUSVLANE_LENT table,
+                             size_t table_bytes, tusvlane_move move);
+
+/* Writes for each partition on the list, in order, the distance that the move
+ * makes over it, to the start of `out`. The tree is not moved. `value` is how
+ * many of the distances are 0: these partitions keep their score.
+ * Refusals 1 to 11. */
+tusvlane_answer tusvlane_judge_move(size_t n, const uint8_t *table,
+                                    size_t table_bytes,
+                                    const uint64_t *partitions,
+                                    size_t partition_count,
+                                    tusvlane_move move,
+                                    uint64_t *TUSVLANE_LENT out,
+                                    size_t out_numbers);
+
+/* `value` is the distance that the move makes over one partition. The tree is
+ * not moved. Refusals 1 to 10. */
+tusvlane_answer tusvlane_judge_one(size_t n, const uint8_t *table,
+                                   size_t table_bytes, uint64_t partition,
+                                   tusvlane_move move);
+
+/* Makes the move, and writes its lines under the move number `number` into
+ * `out` from `place` onward. `value` is the place after the lines.
+ * Refusals 1 to 11; 11 when the lines do not all fit or the place is past the
+ * end, and then the tree has not moved either. */
+tusvlane_answer tusvlane_list_move(size_t n, uint8_t *TUSVLANE_LENT table,
+                                   size_t table_bytes,
+                                   const uint64_t *partitions,
+                                   size_t partition_count,
+                                   tusvlane_move move, uint64_t number,
+                                   uint8_t *TUSVLANE_LENT out,
+                                   size_t out_bytes, size_t place);
+
+/* The state before the first field of a job. */
+tusvlane_state tusvlane_start(void);
+
+/* The step over one field of a job, from the state that the last step gave and
+ * on the table and partitions that it left. The first step takes
+ * tusvlane_start's state and any bytes and numbers in both. A job that is
+ * stepped from its start, with 250 bytes for the table, 64 partitions and 8192
+ * bytes of output, never gives 11.
+ *
+ * Any state is taken, also one that no job has. With its offset as the place
+ * it is refused with
+ * - 1 when its number of taxa is above 64, or below 4 and its offset not 0;
+ * - 11 when the table or the list is too short for its taxa or partitions;
+ * - 12 when its offset is from 1 to 3, or its number of moves above 65,535.
+ * Otherwise the field at its offset is judged: at 0 it is n, at 4 the table;
+ * elsewhere a partition where the state has none, a move where it has moves,
+ * else either, but no 65th partition. After n and after the table the next
+ * state has no partitions and no moves.
+ */
+tusvlane_stepped tusvlane_step(const uint8_t *job, size_t job_bytes,
+                               tusvlane_state state,
+                               uint8_t *TUSVLANE_LENT table,
+                               size_t table_bytes,
+                               uint64_t *TUSVLANE_LENT partitions,
+                               size_t partition_count,
+                               uint8_t *TUSVLANE_LENT out, size_t out_bytes);
+
+#ifdef __cplusplus
+}
+#endif
+
+#endif

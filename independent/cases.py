@@ -1,0 +1,83 @@
+"""Holds the reference to the document's own example and cases, before it judges others."""
+
+import random
+
+import making
+import tusvlane
+
+TREE_S = bytes.fromhex("0006 0106 0607 0207 0708 0308 0809 0409 0509")
+EXAMPLE = (bytes.fromhex("01 0001 06 02 0012") + TREE_S + bytes.fromhex(
+    "03 0008 000000000000003F 03 0008 000000000000000F 04 0004 01040305"))
+
+ALL = range(6)
+DISTANCES = [
+    ((1, 4, 3, 5), ALL, 2),
+    ((1, 4, 3, 5), [0, 2, 3, 4], 2),
+    ((1, 4, 3, 5), [0, 1, 4, 5], 0),
+    ((1, 4, 3, 5), [], 0),
+    ((2, 0, 7, 0), ALL, 6),
+    ((2, 0, 7, 0), [0, 1, 2, 3], 2),
+    ((2, 0, 7, 0), [0, 1, 2], 0),
+    ((2, 0, 7, 0), [1, 2, 3, 4, 5], 0),
+    ((3, 4, 0, 7), ALL, 4),
+    ((3, 4, 0, 7), [0, 1, 3, 4], 0),
+    ((3, 4, 0, 7), [0, 1, 2, 3], 2),
+]
+AFTER = [
+    ((2, 0, 7, 0), {1: (1, 7), 2: (6, 9), 7: (4, 6)}),
+    ((3, 4, 0, 7), {0: (0, 7), 2: (2, 6), 3: (6, 7), 5: (3, 9), 6: (8, 9), 7: (4, 8)}),
+]
+REFUSED_MOVES = [((2, 0, 1, 0), 10), ((2, 0, 0, 0), 9), ((2, 0, 9, 0), 8), ((3, 0, 1, 3), 9)]
+
+
+def number_of(function, *arguments):
+    """The number with which the call is refused, or 0."""
+    try:
+        function(*arguments)
+    except tusvlane.Refused as refused:
+        return refused.number
+    return 0
+
+
+def check_document():
+    """The example, the case table and what follows it."""
+    assert tusvlane.listing(EXAMPLE) == (
+        b"1 1 changed 2\n1 2 same 0\n1 saved 1 pt5\nend 1\n")
+    assert tusvlane.listing(EXAMPLE[:-1] + b"\3") == b"refused 9 at 47\n"
+    for move, taxa, distance in DISTANCES:
+        partition = sum(1 << taxon for taxon in taxa)
+        assert tusvlane.judge_one(6, TREE_S, partition, move) == distance
+    for move, changed in AFTER:
+        rows = tusvlane.rows_of(TREE_S)
+        for number, row in changed.items():
+            rows[number] = row
+        assert tusvlane.apply_move(6, TREE_S, move) == tusvlane.table_of(rows)
+    for move, number in REFUSED_MOVES:
+        assert number_of(tusvlane.apply_move, 6, TREE_S, move) == number
+    assert number_of(tusvlane.check_tree, 3, b"") == 1
+    assert number_of(tusvlane.check_tree, 65, b"") == 1
+    apart = bytes.fromhex("0001 0405 0405 0204 0305")
+    assert number_of(tusvlane.check_tree, 4, apart) == 5
+    assert number_of(tusvlane.judge_one, 6, TREE_S, 1 << 6, (1, 4, 3, 5)) == 6
+
+
+def check_sides():
+    """The kept sides are those found by removing each row."""
+    pick = random.Random(0)
+    for n in range(4, 65):
+        table = making.make_tree(pick, n)
+        rows = tusvlane.rows_of(table)
+        at = tusvlane.rows_at(n, rows)
+        for number, side in enumerate(tusvlane.sides(n, table)):
+            nodes = tusvlane.reached_nodes(rows, at, rows[number][1], number)
+            assert side == sum(1 << node for node in nodes if node < n)
+        partition = making.make_partition(pick, n)
+        size = bin(partition).count("1")
+        members = 2 * size - 3 if size >= 3 else int(size == 2)
+        assert len(tusvlane.split_set(n, table, partition)) == members
+
+
+def check():
+    """All of it; a failed assertion names the line."""
+    check_document()
+    check_sides()

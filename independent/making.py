@@ -1,0 +1,245 @@
+"""Makes trees, partitions and moves from a source of chance, right ones and wrong ones.
+
+What a made thing was meant to be decides nothing: the reference says what it is.
+"""
+
+import tusvlane
+
+EVERY_BIT = 2 ** 64 - 1
+
+
+# Trees.
+
+def grown(pick, n, chooses_row):
+    """A tree: each further taxon is set on the row that chooses_row names."""
+    rows = [(0, n), (1, n), (2, n)]
+    for taxon in range(3, n):
+        inner = n + taxon - 2
+        number = chooses_row(pick, rows, taxon)
+        near, far = rows[number]
+        rows[number] = (near, inner)
+        rows.append((inner, far))
+        rows.append((taxon, inner))
+    return rows
+
+
+def any_row(pick, rows, taxon):
+    """Any row: a tree of no special shape."""
+    return pick.randrange(len(rows))
+
+
+def last_taxon_row(pick, rows, taxon):
+    """The row of the taxon set last: a caterpillar."""
+    return row_of_taxon(rows, taxon - 1)
+
+
+def oldest_taxon_row(pick, rows, taxon):
+    """The taxa's rows in turn, so that all lie about as deep: a balanced tree."""
+    layer = 3
+    while layer * 2 <= taxon:
+        layer *= 2
+    return row_of_taxon(rows, taxon - layer)
+
+
+def row_of_taxon(rows, taxon):
+    """The number of the taxon's only row."""
+    return next(number for number, row in enumerate(rows) if taxon in row)
+
+
+def renumbered(pick, n, rows):
+    """The same shape with taxa, inner nodes and rows in an order of chance, as a table."""
+    taxa = pick.sample(range(n), n)
+    inner = pick.sample(range(n, 2 * n - 2), n - 2)
+    names = taxa + inner
+    rows = [(names[near], names[far]) for near, far in rows]
+    pick.shuffle(rows)
+    return tusvlane.table_of(rows)
+
+
+def make_tree(pick, n):
+    """The table of a tree of n taxa: a caterpillar, a balanced one or one of any shape."""
+    shape = pick.choice([any_row, any_row, last_taxon_row, oldest_taxon_row])
+    return renumbered(pick, n, grown(pick, n, shape))
+
+
+def same_tree(pick, n, table):
+    """The same tree with inner nodes and rows numbered anew."""
+    names = list(range(n)) + pick.sample(range(n, 2 * n - 2), n - 2)
+    rows = [(names[near], names[far]) for near, far in tusvlane.rows_of(table)]
+    pick.shuffle(rows)
+    return tusvlane.table_of(rows)
+
+
+def make_count(pick):
+    """A number of taxa: small ones often, each from 4 to 64 sometimes."""
+    return pick.choice([pick.randint(4, 8), pick.randint(4, 8), pick.randint(4, 16),
+                        pick.randint(4, 32), pick.randint(4, 64), 64])
+
+
+# Tables that are no trees.
+
+def unreachable_table(pick, n):
+    """Each node has its number of rows, but most likely not all hang together."""
+    while True:
+        ends = list(range(n)) + [node for node in range(n, 2 * n - 2) for _ in range(3)]
+        pick.shuffle(ends)
+        rows = list(zip(ends[::2], ends[1::2]))
+        if all(near != far for near, far in rows):
+            return tusvlane.table_of(rows)
+
+
+def wrong_degrees(pick, n, table):
+    """One or two ends are set to another node, the rows staying in order."""
+    rows = [list(row) for row in tusvlane.rows_of(table)]
+    for _ in range(pick.randint(1, 2)):
+        row = pick.choice(rows)
+        row[:] = sorted(pick.sample(range(2 * n - 2), 2))
+    return tusvlane.table_of(rows)
+
+
+def wrong_ends(pick, n, table):
+    """One row has its ends exchanged, equal, or one of them too large."""
+    at = 2 * pick.randrange(len(table) // 2)
+    near, far = table[at], table[at + 1]
+    row = pick.choice([(far, near), (near, near), (far, far), (near, 2 * n - 2), (near, 255),
+                       (2 * n - 2, 2 * n - 1), (pick.randrange(256), pick.randrange(256))])
+    return table[:at] + bytes(row) + table[at + 2:]
+
+
+def wrong_table(pick, n, table):
+    """A table of the right length that is most likely no tree."""
+    way = pick.randrange(6)
+    if way == 0:
+        return unreachable_table(pick, n)
+    if way == 1:
+        return wrong_degrees(pick, n, table)
+    if way == 2:
+        return wrong_ends(pick, n, table)
+    if way == 3:
+        return wrong_ends(pick, n, wrong_degrees(pick, n, table))
+    if way == 4:
+        return wrong_degrees(pick, n, unreachable_table(pick, n))
+    return bytes(pick.randrange(256) for _ in table)
+
+
+# Partitions.
+
+def make_partition(pick, n):
+    """A set of taxa: mostly 70 in 100 cells empty; also none, all, and 1 to 4 taxa."""
+    way = pick.randrange(10)
+    if way == 0:
+        return 0
+    if way == 1:
+        return (1 << n) - 1
+    if way <= 3:
+        return sum(1 << taxon for taxon in pick.sample(range(n), pick.randint(1, 4)))
+    return sum(1 << taxon for taxon in range(n) if pick.random() < 0.3)
+
+
+def foreign_partition(pick, n):
+    """A partition with a taxon n or above; with 64 taxa there is none, and it is any."""
+    partition = make_partition(pick, n)
+    if n == 64:
+        return partition
+    return pick.choice([partition | 1 << n, partition | 1 << pick.randint(n, 63),
+                        partition | 1 << 63, EVERY_BIT])
+
+
+def make_partitions(pick, n, count):
+    """A list of partitions."""
+    return [make_partition(pick, n) for _ in range(count)]
+
+
+# Moves.
+
+def draw_nni(pick, n, rows, at):
+    """An inner row and a row at each of its ends."""
+    e = pick.choice([number for number, row in enumerate(rows) if min(row) >= n])
+    around = [pick.choice([number for number in at[end] if number != e]) for end in rows[e]]
+    pick.shuffle(around)
+    return (tusvlane.NNI, e, around[0], around[1])
+
+
+def draw_spr(pick, n, rows, at):
+    """Any two rows."""
+    a, b = pick.sample(range(len(rows)), 2)
+    return (tusvlane.SPR, a, b, 0)
+
+
+def draw_tbr(pick, n, rows, at):
+    """Any row, and a target in each of its two parts."""
+    a = pick.randrange(len(rows))
+    targets = []
+    for end in sorted(rows[a]):
+        part = sorted(tusvlane.part_of(n, rows, end, a))
+        targets.append(pick.choice(part) if part else a)
+    return (tusvlane.TBR, a, targets[0], targets[1])
+
+
+def draw_move(pick, n, table):
+    """A move that is accepted more often than not, on a table that is a tree."""
+    rows = tusvlane.rows_of(table)
+    draw = pick.choice([draw_nni, draw_spr, draw_tbr])
+    return draw(pick, n, rows, tusvlane.rows_at(n, rows))
+
+
+def accepted_move(pick, n, table):
+    """A move that is accepted on this tree, and the table after it."""
+    while True:
+        move = draw_move(pick, n, table)
+        try:
+            return move, tusvlane.moved(n, table, move)
+        except tusvlane.Refused:
+            pass
+
+
+def wild_move(pick, n):
+    """A move of four bytes that need not fit anything."""
+    def number():
+        """A row number, now and then one too large."""
+        return pick.choice([pick.randrange(2 * n - 3)] * 6 + [0, 2 * n - 4, 2 * n - 3, 255])
+    kind = pick.choice([1, 2, 3] * 4 + [0, 4, 255, pick.randrange(256)])
+    third = pick.choice([0, 0, 0, number()]) if kind == tusvlane.SPR else number()
+    return (kind, number(), number(), third)
+
+
+def staying_move(pick, n, table):
+    """An SPR or TBR in which most likely no end moves."""
+    rows = tusvlane.rows_of(table)
+    at = tusvlane.rows_at(n, rows)
+    a = pick.randrange(len(rows))
+    touching = []
+    for end in sorted(rows[a]):
+        touching.append(pick.choice([number for number in at[end] if number != a] or [a]))
+    if pick.random() < 0.5:
+        return (tusvlane.SPR, a, pick.choice(touching), 0)
+    return (tusvlane.TBR, a, touching[0], touching[1])
+
+
+def misfit_move(pick, n, table):
+    """A move that fits, but for one of its rows."""
+    move = list(pick.choice([draw_move, staying_move])(pick, n, table))
+    place = pick.randint(1, 2 if move[0] == tusvlane.SPR else 3)
+    move[place] = pick.choice([move[1], move[2], move[3], pick.randrange(2 * n - 3)])
+    return tuple(move)
+
+
+def faulty_move(pick, n, table):
+    """A move that is refused more often than not."""
+    way = pick.randrange(3)
+    if way == 0:
+        return wild_move(pick, n)
+    if way == 1:
+        return staying_move(pick, n, table)
+    return misfit_move(pick, n, table)
+
+
+def refused_move(pick, n, table, number):
+    """A move that this tree refuses with the number."""
+    while True:
+        move = faulty_move(pick, n, table)
+        try:
+            tusvlane.moved(n, table, move)
+        except tusvlane.Refused as refused:
+            if refused.number == number:
+                return move
