@@ -32,6 +32,7 @@ use Rattle.judge.specs.declared.Judged.{Judged}
 use Rattle.judge.specs.declared.Verdict.{Verdict}
 use Rattle.judge.proofs.SaidLaws.{applies-one, judges-one, verdict-one}
 use Rattle.text.specs.Lines.{savedLine}
+use Rattle.text.specs.Plain.{Plain}
 use Rattle.listing.specs.Listing as listing
 use Rattle.listing.specs.Listing.{verdictLines, moveLines, linesSaid, placeAfter, Lists}
 use Rattle.listing.specs.declared.Lines.{Lines}
@@ -44,6 +45,7 @@ use Rattle.job.specs.Steps as steps
 use Rattle.job.specs.Runs.{first, run, Roomy}
 use Rattle.job.specs.Sound.{Closes}
 use Rattle.job.specs.declared.Stepped.{Stepped}
+use Rattle.job.proofs.PlainListing.{listing-plain}
 use Rattle.job.proofs.StateLaws.{gives-one}
 use Rattle.job.proofs.RunLaws.{run-is-listing, listing-closes}
 
@@ -145,6 +147,10 @@ saved-counted = lines-are
 -- The steps in order, with the program's memory, write the listing of the whole job as defined.
 pub steps-list : (j table parts : List ℕ) (room : ℕ) → Roomy table parts room → run (suc (length j)) j first table parts room ≡ job.listing j
 steps-list = run-is-listing
+
+-- Every written line is ASCII, with one line feed and no blank at its end.
+pub plain-lines : (j : List ℕ) → Plain (job.listing j)
+plain-lines = listing-plain
 
 -- ==== Demand 3: more species never lower a distance.
 

@@ -1,4 +1,5 @@
 pub mod FieldSteps
+pub mod PlainListing
 pub mod ReadLaws
 pub mod RunLaws
 pub mod SoundLaws

@@ -1,2 +1,3 @@
 pub mod Widths
 pub mod Placing
+pub mod PlainLaws
