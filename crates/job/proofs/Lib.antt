@@ -1,6 +1,7 @@
 pub mod FieldSteps
 pub mod PlainListing
 pub mod ReadLaws
+pub mod RoomLaws
 pub mod RunLaws
 pub mod SoundLaws
 pub mod StateLaws

@@ -89,7 +89,7 @@ fn keep_table(at: usize, n: usize, t: &[u8], table: &mut [u8]) -> Stepped
     requires { ⌜ (at ≤ longest) × (4 ≤ n) × (n ≤ most) × (length (now t) ≡ 2 * rows n) × (2 * rows n ≤ length (now table)) ⌝ }
     ensures { λ r. ⌜ (steppedSays r ≡ toldOf (keptStep at n (now (t .entry)))) × (now (table .exit) ≡ tableThen (keptStep at n (now (t .entry))) (now (table .entry))) ⌝ }
 {
-    let answer = near::check_tree(n, t);
+    let answer = sides::check_tree(n, t);
     match answer {
         Checked::Refused(r) => Stepped::Refused { why: r, place: at },
         Checked::Tree => {

@@ -1,19 +1,15 @@
 // Jobs of document 01, run: for each a line of its own, then the job's listing.
+ghost use Prim.Native.Nat.{_≤_};
+ghost use lib.ListN.{length};
 use job::Stepped;
-use libc::STDOUT_FILENO;
-use table::Refusal;
-
-// Tree S of document 01: taxa 0 to 5 along a line.
-const S: [u8; 18] = [0, 6, 1, 6, 6, 7, 2, 7, 7, 8, 3, 8, 8, 9, 4, 9, 5, 9];
-
-// Tree S with the larger end of its first row first.
-const S_TURNED: [u8; 18] = [6, 0, 1, 6, 6, 7, 2, 7, 7, 8, 3, 8, 8, 9, 4, 9, 5, 9];
-
-// Tree S with taxon 1 at two rows and taxon 0 at none.
-const S_TWICE: [u8; 18] = [1, 6, 1, 6, 6, 7, 2, 7, 7, 8, 3, 8, 8, 9, 4, 9, 5, 9];
-
-// The rows of document 01 that pass 4 and are 5.
-const APART: [u8; 10] = [0, 1, 4, 5, 4, 5, 2, 4, 3, 5];
+use prints::line;
+use prints::number;
+use prints::put;
+use prints::say;
+use samples::APART;
+use samples::S;
+use samples::S_TURNED;
+use samples::S_TWICE;
 
 // The job of document 01.
 const DOCUMENT: [u8; 54] = [
@@ -73,63 +69,13 @@ const DOCUMENT: [u8; 54] = [
     5,
 ];
 
-// Writes the first bytes of what was lent for lines, where it has so many.
-fn put(lines: &[u8], wrote: usize) {
-    if wrote <= lines.len() {
-        io::write_all(STDOUT_FILENO, &lines[..wrote]);
-    }
-}
-
-// Writes the closing line of a job that is over.
-fn end(moves: u64) {
-    let mut line = [0u8; 64];
-    let wrote = text::end_line(moves, &mut line);
-    put(&line, wrote);
-}
-
-// Writes the closing line of a job that is refused.
-fn refused(why: Refusal, place: usize) {
-    let mut line = [0u8; 64];
-    let wrote = text::refused_line(table::number(why) as u64, place as u64, &mut line);
-    put(&line, wrote);
-}
-
-// Writes the listing of a job, a step over one field at a time.
-fn list(input: &[u8]) {
-    let mut tree = [0u8; 250];
-    let mut parts = [0u64; 64];
-    let mut out = [0u8; 8192];
-    let mut s = job::start();
-    let mut left: u64 = 65537;
-    while 0 < left {
-        let moves = s.moves;
-        match job::step(input, s, &mut tree, &mut parts, &mut out) {
-            Stepped::Next { state, wrote } => {
-                put(&out, wrote);
-                s = state;
-            }
-            Stepped::Ended => {
-                end(moves);
-                return;
-            }
-            Stepped::Refused { why, place } => {
-                refused(why, place);
-                return;
-            }
-        }
-        left -= 1;
-    }
-}
-
-// How many of the first bytes are line feeds.
-fn feeds(lines: &[u8], wrote: usize) -> u64 {
+// How many of the bytes are line feeds.
+fn feeds(lines: &[u8]) -> u64 {
     let mut k: u64 = 0;
     let mut i: usize = 0;
-    while i < wrote {
-        if i < lines.len() {
-            if lines[i] == 10 {
-                k = std::num::wrapping_add_u64(k, 1);
-            }
+    while i < lines.len() {
+        if lines[i] == 10 {
+            k = std::num::wrapping_add_u64(k, 1);
         }
         i += 1;
     }
@@ -137,13 +83,15 @@ fn feeds(lines: &[u8], wrote: usize) -> u64 {
 }
 
 // Writes how many lines the moves of a job have, then the lines of its last move.
-fn tally(lines: u64, out: &[u8], wrote: usize) {
-    io::print_decimal(STDOUT_FILENO, lines);
-    io::write_all(STDOUT_FILENO, b" lines, the last of them\n");
-    put(out, wrote);
+fn tally(lines: u64, out: &[u8], wrote: usize)
+    requires { ⌜ wrote ≤ length (now out) ⌝ }
+{
+    say(lines);
+    line(b"lines, the last of them");
+    writer::put(out, wrote);
 }
 
-// The same as the listing, but of the lines of moves only their number and the last move's.
+// The same as the listing, but of the lines of moves only their number and the last move's, since a long job has thousands.
 fn count(input: &[u8]) {
     let mut tree = [0u8; 250];
     let mut parts = [0u64; 64];
@@ -151,23 +99,23 @@ fn count(input: &[u8]) {
     let mut s = job::start();
     let mut lines: u64 = 0;
     let mut last: usize = 0;
-    let mut left: u64 = 65537;
+    let mut left = writer::STEPS;
     while 0 < left {
         let moves = s.moves;
         match job::step(input, s, &mut tree, &mut parts, &mut out) {
             Stepped::Next { state, wrote } => {
-                lines = std::num::wrapping_add_u64(lines, feeds(&out, wrote));
+                lines = std::num::wrapping_add_u64(lines, feeds(&out[..wrote]));
                 last = wrote;
                 s = state;
             }
             Stepped::Ended => {
                 tally(lines, &out, last);
-                end(moves);
+                writer::end(moves);
                 return;
             }
             Stepped::Refused { why, place } => {
                 tally(lines, &out, last);
-                refused(why, place);
+                writer::refused(why, place);
                 return;
             }
         }
@@ -176,25 +124,24 @@ fn count(input: &[u8]) {
 }
 
 // Writes the line that introduces a job.
-fn title(number: u64, words: &[u8]) {
-    io::write_all(STDOUT_FILENO, b"job ");
-    io::print_decimal(STDOUT_FILENO, number);
-    io::write_all(STDOUT_FILENO, b": ");
-    io::write_all(STDOUT_FILENO, words);
-    io::write_all(STDOUT_FILENO, b"\n");
+fn title(which: u64, words: &[u8]) {
+    put(b"job ");
+    number(which);
+    put(b": ");
+    line(words);
 }
 
 // Introduces the job in so many first bytes and writes its listing.
-fn run(number: u64, words: &[u8], job: &[u8], long: usize) {
-    title(number, words);
+fn run(which: u64, words: &[u8], job: &[u8], long: usize) {
+    title(which, words);
     if long <= job.len() {
-        list(&job[..long]);
+        writer::list(&job[..long]);
     }
 }
 
 // Introduces a long job and writes the end of its listing.
-fn run_long(number: u64, words: &[u8], job: &[u8], long: usize) {
-    title(number, words);
+fn run_long(which: u64, words: &[u8], job: &[u8], long: usize) {
+    title(which, words);
     if long <= job.len() {
         count(&job[..long]);
     }
@@ -271,26 +218,6 @@ fn wholes(job: &mut [u8], at: usize, k: u8) -> usize {
         i += 1;
     }
     end
-}
-
-// The largest tree: 64 taxa along a line, as tree S has six.
-fn along() -> [u8; 250] {
-    let mut t = [0u8; 250];
-    t[1] = 64;
-    let mut k: u8 = 0;
-    while k < 61 {
-        let i = 4 * (k as usize);
-        t[i + 2] = k + 1;
-        t[i + 3] = k + 64;
-        t[i + 4] = k + 64;
-        t[i + 5] = k + 65;
-        k += 1;
-    }
-    t[246] = 62;
-    t[247] = 125;
-    t[248] = 63;
-    t[249] = 125;
-    t
 }
 
 // Puts so many times three moves, an NNI, an SPR and a TBR.
@@ -474,9 +401,9 @@ fn after_moves() {
 fn cuts() {
     let mut k: usize = 0;
     while k < 54 {
-        io::write_all(STDOUT_FILENO, b"cut to ");
-        io::print_decimal(STDOUT_FILENO, k as u64);
-        io::write_all(STDOUT_FILENO, b" bytes, ");
+        put(b"cut to ");
+        say(k as u64);
+        put(b"bytes, ");
         run(54, b"the document's job", &DOCUMENT, k);
         k += 1;
     }
@@ -498,7 +425,7 @@ fn longest() {
 // The largest tree and the most partitions, with the longest way that a move can go.
 fn largest() {
     let mut j = [0u8; 1024];
-    let t = along();
+    let t = samples::along();
     let a = tree(&mut j, 64, 250, &t);
     let b = wholes(&mut j, a, 64);
     let c = change(&mut j, b, 2, 0, 123, 0);
@@ -508,6 +435,7 @@ fn largest() {
     run(61, b"64 taxa, then SPR 0,125", &j, f);
 }
 
+// Runs the cases in the order of the stored output.
 fn main() {
     documents();
     lists();

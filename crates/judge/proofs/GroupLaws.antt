@@ -13,7 +13,7 @@ use Rattle.tree.specs.Splits.{dist, distances}
 use Rattle.tree.specs.Refusals.{each, Accepted}
 use Rattle.tree.proofs.RefusalLaws.{Pass}
 use Rattle.moves.specs.Moves.{Move, moved, moveChecks}
-use Rattle.moves.specs.Groups.{stayed, groups, nniRule, sprRule, tbrRule, moveRule}
+use Rattle.moves.specs.Groups.{stayed, nniRule, sprRule, tbrRule, moveRule}
 use Rattle.moves.proofs.GroupLists.{met-append}
 use Rattle.moves.proofs.Moved.{Passed, by-nni, by-spr, by-tbr, passed, moved-dist, rule-nni, rule-spr, rule-tbr}
 use Rattle.rules.specs.Each.{byGroups, zeros, Judges}

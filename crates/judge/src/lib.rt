@@ -10,6 +10,7 @@ ghost use Rattle.tree.specs.Refusals.{Accepted, each, partitionsChecks};
 ghost use Rattle.tree.proofs.RefusalLaws.{Pass};
 ghost use Rattle.near.specs.Near.{Near};
 ghost use Rattle.sides.specs.Filled.{Sides};
+ghost use Rattle.sides.specs.Filled.{Sides};
 ghost use Rattle.moves.specs.Moves as moves_spec;
 ghost use Rattle.walks.specs.Way.{Listed, room};
 ghost use Rattle.fits.specs.Bytes.{moveOf};
@@ -62,16 +63,15 @@ pub fn rewrite_rows(n: usize, t: &mut [u8], near: &[u8], s: &[u64], m: Move)
 }
 
 // The same where the table is a tree: refusals 7 to 10.
-fn apply_tree(n: usize, t: &mut [u8], near: &[u8], m: Move) -> Moved
-    requires { ⌜ (Accepted n (now t)) × (Near n (now t) (now near)) ⌝ }
+fn apply_tree(n: usize, t: &mut [u8], near: &[u8], s: &[u64], m: Move) -> Moved
+    requires { ⌜ (Accepted n (now t)) × (Near n (now t) (now near)) × (Sides n (now t) (now s)) ⌝ }
     ensures { λ r. ⌜ Applies n (now (t .entry)) (moveOf m) r (now (t .exit)) ⌝ }
 {
-    let s = sides::sides(n, t, near);
-    let fit = fits::fit_of(n, t, &s, m);
+    let fit = fits::fit_of(n, t, s, m);
     match fit {
         Fitted::Refused(r) => Moved::Refused(r),
         Fitted::Fits => {
-            rewrite_rows(n, t, near, &s, m);
+            rewrite_rows(n, t, near, s, m);
             Moved::Done
         }
     }
@@ -81,12 +81,13 @@ fn apply_tree(n: usize, t: &mut [u8], near: &[u8], m: Move) -> Moved
 pub fn apply_move(n: usize, t: &mut [u8], m: Move) -> Moved
     ensures { λ r. ⌜ Applies n (now (t .entry)) (moveOf m) r (now (t .exit)) ⌝ }
 {
-    let l = near::look(n, t);
+    let l = sides::look(n, t);
     let near = l.near;
+    let s = l.sides;
     let answer = l.answer;
     match answer {
         Checked::Refused(r) => Moved::Refused(r),
-        Checked::Tree => apply_tree(n, t, &near, m),
+        Checked::Tree => apply_tree(n, t, &near, &s, m),
     }
 }
 
@@ -205,18 +206,25 @@ fn judge_fit(
 }
 
 // The judgement of a tree's move: refusals 6 to 11.
-fn judge_tree(n: usize, t: &[u8], near: &[u8], ys: &[u64], m: Move, out: &mut [u64]) -> Judged
-    requires { ⌜ (Accepted n (now t)) × (Near n (now t) (now near)) ⌝ }
+fn judge_tree(
+    n: usize,
+    t: &[u8],
+    near: &[u8],
+    s: &[u64],
+    ys: &[u64],
+    m: Move,
+    out: &mut [u64],
+) -> Judged
+    requires { ⌜ (Accepted n (now t)) × (Near n (now t) (now near)) × (Sides n (now t) (now s)) ⌝ }
     ensures { λ r. ⌜ JudgesAll n (now (t .entry)) (now (ys .entry)) (moveOf m) (now (out .entry)) r (now (out .exit)) ⌝ }
 {
     if !partitions_right(n, ys) {
         return Judged::Refused(Refusal::Partition);
     }
-    let s = sides::sides(n, t, near);
-    let fit = fits::fit_of(n, t, &s, m);
+    let fit = fits::fit_of(n, t, s, m);
     match fit {
         Fitted::Refused(r) => Judged::Refused(r),
-        Fitted::Fits => judge_fit(n, t, near, &s, ys, m, out),
+        Fitted::Fits => judge_fit(n, t, near, s, ys, m, out),
     }
 }
 
@@ -224,12 +232,13 @@ fn judge_tree(n: usize, t: &[u8], near: &[u8], ys: &[u64], m: Move, out: &mut [u
 pub fn judge_move(n: usize, t: &[u8], ys: &[u64], m: Move, out: &mut [u64]) -> Judged
     ensures { λ r. ⌜ JudgesAll n (now (t .entry)) (now (ys .entry)) (moveOf m) (now (out .entry)) r (now (out .exit)) ⌝ }
 {
-    let l = near::look(n, t);
+    let l = sides::look(n, t);
     let near = l.near;
+    let s = l.sides;
     let answer = l.answer;
     match answer {
         Checked::Refused(r) => Judged::Refused(r),
-        Checked::Tree => judge_tree(n, t, &near, ys, m, out),
+        Checked::Tree => judge_tree(n, t, &near, &s, ys, m, out),
     }
 }
 
@@ -246,18 +255,17 @@ fn one_groups(n: usize, t: &[u8], near: &[u8], s: &[u64], y: u64, m: Move) -> u6
 }
 
 // The judgement of a tree's move for one partition: refusals 6 to 10.
-fn one_tree(n: usize, t: &[u8], near: &[u8], y: u64, m: Move) -> Verdict
-    requires { ⌜ (Accepted n (now t)) × (Near n (now t) (now near)) ⌝ }
+fn one_tree(n: usize, t: &[u8], near: &[u8], s: &[u64], y: u64, m: Move) -> Verdict
+    requires { ⌜ (Accepted n (now t)) × (Near n (now t) (now near)) × (Sides n (now t) (now s)) ⌝ }
     ensures { λ r. ⌜ JudgesOne n (now (t .entry)) y (moveOf m) r ⌝ }
 {
     if !taxa::within(y, n) {
         return Verdict::Refused(Refusal::Partition);
     }
-    let s = sides::sides(n, t, near);
-    let fit = fits::fit_of(n, t, &s, m);
+    let fit = fits::fit_of(n, t, s, m);
     match fit {
         Fitted::Refused(r) => Verdict::Refused(r),
-        Fitted::Fits => Verdict::Distance(one_groups(n, t, near, &s, y, m)),
+        Fitted::Fits => Verdict::Distance(one_groups(n, t, near, s, y, m)),
     }
 }
 
@@ -265,11 +273,12 @@ fn one_tree(n: usize, t: &[u8], near: &[u8], y: u64, m: Move) -> Verdict
 pub fn judge_one(n: usize, t: &[u8], y: u64, m: Move) -> Verdict
     ensures { λ r. ⌜ JudgesOne n (now (t .entry)) y (moveOf m) r ⌝ }
 {
-    let l = near::look(n, t);
+    let l = sides::look(n, t);
     let near = l.near;
+    let s = l.sides;
     let answer = l.answer;
     match answer {
         Checked::Refused(r) => Verdict::Refused(r),
-        Checked::Tree => one_tree(n, t, &near, y, m),
+        Checked::Tree => one_tree(n, t, &near, &s, y, m),
     }
 }

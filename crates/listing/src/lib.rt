@@ -8,6 +8,7 @@ ghost use Rattle.taxa.specs.Sets.{pick};
 ghost use Rattle.tree.specs.Refusals.{Accepted, partitionsChecks};
 ghost use Rattle.tree.proofs.RefusalLaws.{Pass};
 ghost use Rattle.near.specs.Near.{Near};
+ghost use Rattle.sides.specs.Filled.{Sides};
 ghost use Rattle.text.specs.Lines.{putFirst};
 ghost use Rattle.rules.specs.Each.{zeros};
 ghost use Rattle.moves.specs.Moves.{moved};
@@ -149,23 +150,23 @@ fn list_tree(
     n: usize,
     t: &mut [u8],
     near: &[u8],
+    s: &[u64],
     ys: &[u64],
     m: Move,
     number: u64,
     out: &mut [u8],
     place: usize,
 ) -> Lines
-    requires { ⌜ (Accepted n (now t)) × (Near n (now t) (now near)) ⌝ }
+    requires { ⌜ (Accepted n (now t)) × (Near n (now t) (now near)) × (Sides n (now t) (now s)) ⌝ }
     ensures { λ r. ⌜ Lists n (now (t .entry)) (now (ys .entry)) (moveOf m) number (now (out .entry)) place r (now (t .exit)) (now (out .exit)) ⌝ }
 {
     if !judge::partitions_right(n, ys) {
         return Lines::Refused(Refusal::Partition);
     }
-    let s = sides::sides(n, t, near);
-    let fit = fits::fit_of(n, t, &s, m);
+    let fit = fits::fit_of(n, t, s, m);
     match fit {
         Fitted::Refused(r) => Lines::Refused(r),
-        Fitted::Fits => list_fit(n, t, near, &s, ys, m, number, out, place),
+        Fitted::Fits => list_fit(n, t, near, s, ys, m, number, out, place),
     }
 }
 
@@ -181,11 +182,12 @@ pub fn list_move(
 ) -> Lines
     ensures { λ r. ⌜ Lists n (now (t .entry)) (now (ys .entry)) (moveOf m) number (now (out .entry)) place r (now (t .exit)) (now (out .exit)) ⌝ }
 {
-    let l = near::look(n, t);
+    let l = sides::look(n, t);
     let near = l.near;
+    let s = l.sides;
     let answer = l.answer;
     match answer {
         Checked::Refused(r) => Lines::Refused(r),
-        Checked::Tree => list_tree(n, t, &near, ys, m, number, out, place),
+        Checked::Tree => list_tree(n, t, &near, &s, ys, m, number, out, place),
     }
 }

@@ -4,25 +4,18 @@ use fits::Move;
 use judge::Judged;
 use judge::Moved;
 use judge::Verdict;
-use libc::STDOUT_FILENO;
-
-// Tree S of document 01: taxa 0 to 5 along a line.
-const S: [u8; 18] = [0, 6, 1, 6, 6, 7, 2, 7, 7, 8, 3, 8, 8, 9, 4, 9, 5, 9];
-
-// Tree S with the larger end of its first row first.
-const S_TURNED: [u8; 18] = [6, 0, 1, 6, 6, 7, 2, 7, 7, 8, 3, 8, 8, 9, 4, 9, 5, 9];
-
-// Tree S with taxon 1 at two rows and taxon 0 at none.
-const S_TWICE: [u8; 18] = [1, 6, 1, 6, 6, 7, 2, 7, 7, 8, 3, 8, 8, 9, 4, 9, 5, 9];
-
-// The smallest tree.
-const FOUR: [u8; 10] = [0, 4, 1, 4, 4, 5, 2, 5, 3, 5];
-
-// The rows of document 01 that pass 4 and are 5.
-const APART: [u8; 10] = [0, 1, 4, 5, 4, 5, 2, 4, 3, 5];
-
-// A mark that no answer writes.
-const MARK: u64 = 999;
+use prints::line;
+use prints::number;
+use prints::numbers;
+use prints::put;
+use prints::say;
+use samples::APART;
+use samples::FOUR;
+use samples::MARK;
+use samples::S;
+use samples::S_TURNED;
+use samples::S_TWICE;
+use samples::along;
 
 // The four bytes of a move.
 fn four(kind: u8, a: u8, b: u8, c: u8) -> Move {
@@ -49,38 +42,12 @@ fn tbr(a: u8, b: u8, c: u8) -> Move {
     four(3, a, b, c)
 }
 
-// Writes words.
-fn put(words: &[u8]) {
-    io::write_all(STDOUT_FILENO, words);
-}
-
-// Writes words and ends the line.
-fn line(words: &[u8]) {
-    put(words);
-    put(b"\n");
-}
-
-// Writes a number and a blank.
-fn say(k: u64) {
-    io::print_decimal(STDOUT_FILENO, k);
-    put(b" ");
-}
-
-// Writes the numbers of a list.
-fn numbers(l: &[u64]) {
-    let mut i: usize = 0;
-    while i < l.len() {
-        say(l[i]);
-        i += 1;
-    }
-}
-
 // Writes the rows of a table as document 01 does, a dash between the two ends.
 fn rows(t: &[u8]) {
     let m = t.len() / 2;
     let mut i: usize = 0;
     while i < m {
-        io::print_decimal(STDOUT_FILENO, table::lo(t, i) as u64);
+        number(table::lo(t, i) as u64);
         put(b"-");
         say(table::hi(t, i) as u64);
         i += 1;
@@ -447,26 +414,6 @@ fn smallest() {
     );
 }
 
-// The largest tree: 64 taxa along a line, as tree S has six.
-fn along() -> [u8; 250] {
-    let mut t = [0u8; 250];
-    t[1] = 64;
-    let mut k: u8 = 0;
-    while k < 61 {
-        let i = 4 * (k as usize);
-        t[i + 2] = k + 1;
-        t[i + 3] = k + 64;
-        t[i + 4] = k + 64;
-        t[i + 5] = k + 65;
-        k += 1;
-    }
-    t[246] = 62;
-    t[247] = 125;
-    t[248] = 63;
-    t[249] = 125;
-    t
-}
-
 // Moves judged on the largest tree, with the longest way that one can go.
 fn far(t: &[u8]) {
     let all = 18446744073709551615;
@@ -490,6 +437,7 @@ fn largest() {
     apply(64, &copy, &mut t, spr(0, 123), b"64 taxa, after SPR 0,123");
 }
 
+// Runs the cases in the order of the stored output.
 fn main() {
     p_rows();
     p_lists();

@@ -1,3 +1,2 @@
 pub mod NearLaws
-pub mod VisitLaws
-pub mod LookLaws
+pub mod PlaceLaws

@@ -7,9 +7,6 @@ use lib.ListN.{length, getD, set}
 use Rattle.taxa.specs.Most.{most}
 use Rattle.taxa.specs.Sets.{pick}
 use Rattle.tree.specs.Tree.{rows, nodes, rowsAt}
-use Rattle.tree.specs.Refusals.{gives, treeSaid}
-use Rattle.table.specs.Says.{checkSays}
-use Rattle.table.specs.declared.Checked.{Checked}
 
 -- a free place holds 255, which is no row
 abbrev pub free : ℕ
@@ -35,8 +32,3 @@ abbrev pub otherSecond : ℕ → List ℕ → ℕ → ℕ
 otherSecond e a v =
     pick (eqb (getD a (3 * v + 0) 0) e) (getD a (3 * v + 2) 0)
     (pick (eqb (getD a (3 * v + 1) 0) e) (getD a (3 * v + 2) 0) (getD a (3 * v + 1) 0))
-
--- the answer is the tree's, and where it is a tree the array holds its rows
-pub record Found (n : ℕ) (t : List ℕ) (c : Checked) (a : List ℕ) : Type 0 where
-  pub says : checkSays c ≡ treeSaid n t
-  pub near : treeSaid n t ≡ gives tt → Near n t a

@@ -11,7 +11,7 @@ use lib.Seq.{getD-set-same, getD-set-other}
 use lib.Bits.{bitOr}
 use borrow.Author.Tests.{eqb-true, eqb-false, ne-eqb, ltb-true}
 use Rattle.taxa.specs.Most.{most}
-use Rattle.taxa.specs.Sets.{has, less, full, size}
+use Rattle.taxa.specs.Sets.{has, less, full}
 use Rattle.taxa.proofs.Bools.{either, or-cases}
 use Rattle.taxa.proofs.Sets.{has-less, has-mod, has-ones, ext}
 use Rattle.tree.specs.Tree.{lo, hi, rows, nodes, far, part, Valid}
@@ -20,11 +20,12 @@ use Rattle.tree.specs.Refusals.{Accepted}
 use Rattle.tree.proofs.Joins.{touch-joins, joins-touch, joins-flip, touch-node}
 use Rattle.tree.proofs.Colourings.{two-sides}
 use Rattle.tree.proofs.RowCounts.{Pair, pair-of, leaf-only}
-use Rattle.tree.proofs.Forks.{fork, node-side, less-f, less-g, at-f, at-g, taxa-both, leaf-side}
+use Rattle.tree.proofs.Forks.{fork, node-side, at-f, at-g, taxa-both, leaf-side}
 use Rattle.near.specs.Near.{Near, otherFirst, otherSecond}
 use Rattle.near.proofs.NearLaws.{near-others}
-use Rattle.near.proofs.VisitLaws.{Across, place-0}
+use Rattle.near.proofs.PlaceLaws.{Across, place-0}
 use Rattle.sides.specs.Filled.{At, Filled, Sides}
+use Rattle.sides.proofs.LookLaws.{accepted-rowed}
 
 -- ---- what is known at an end
 module _ (n : ℕ) (t : List ℕ) (e v : ℕ) (a : At n t e v) where
@@ -53,12 +54,6 @@ module _ (n : ℕ) (t : List ℕ) (e v f g x y : ℕ) (a : At n t e v) (inner : 
 
   pub go-g : At n t g y
   go-g = rw ey (record { good = a .good; row = K .g-lt; touch = at-g n t e v f g valid (a .row) (a .touch) inner K })
-
-  pub fall-f : size (nodes n) (part n t f x) < size (nodes n) (part n t e v)
-  fall-f = rw ex (less-f n t e v f g valid (a .row) (a .touch) inner K)
-
-  pub fall-g : size (nodes n) (part n t g y) < size (nodes n) (part n t e v)
-  fall-g = rw ey (less-g n t e v f g valid (a .row) (a .touch) inner K)
 
   pub union : (p q : ℕ) → p ≡ part n t f x % 2 ^ n → q ≡ part n t g y % 2 ^ n → bitOr p q ≡ part n t e v % 2 ^ n
   union p q hp hq =
@@ -163,7 +158,7 @@ module _ (n : ℕ) (t : List ℕ) (e v : ℕ) (a : At n t e v) where
 -- ---- from taxon 0 every row is met
 module _ (n : ℕ) (t near : List ℕ) (e v : ℕ) (good : Accepted n t) (N : Near n t near) (ee : e ≡ getD near (3 * 0 + 0) 0) (ev : v ≡ far t e 0) where
   zero-row : Across n t 0 e
-  zero-row = place-0 n t near 0 (Rattle.near.proofs.LookLaws.accepted-rowed n t good) N (omega (arith, good .valid .big)) e ee
+  zero-row = place-0 n t near 0 (accepted-rowed n t good) N (omega (arith, good .valid .big)) e ee
 
   pub zero-room : 2 * e + 1 < length t
   zero-room = omega (arith, good .valid .len, zero-row .row)

@@ -1,21 +1,36 @@
-// The side of every row of a tree, found in one traversal from taxon 0.
-ghost use Prim.Native.Nat.{ℕ, _^_, _%_, _<_, _≤_};
+// The check of a tree, and with it the side of every row: one traversal from taxon 0 finds both.
+ghost use Prim.Native.Nat.{_+_, _*_, _<_, _≤_};
 ghost use mathlib.Core.Path.{_≡_};
 ghost use lib.ListN.{length, set};
 ghost use Rattle.taxa.specs.Most.{most};
-ghost use Rattle.tree.specs.Tree.{rows, part};
-ghost use Rattle.tree.specs.Splits.{side};
-ghost use Rattle.tree.specs.Refusals.{Accepted};
+ghost use Rattle.tree.specs.Tree.{rows, nodes, every, fromZero};
+ghost use Rattle.tree.specs.Refusals.{treeSaid, Accepted};
+ghost use Rattle.table.specs.Says.{checkSays};
+ghost use Rattle.table.specs.Rowed.{Rowed};
 ghost use Rattle.near.specs.Near.{Near};
-ghost use Rattle.sides.specs.Filled.{At, Filled, Sides};
+ghost use Rattle.sides.specs.Filled.{Sides};
+ghost use Rattle.sides.specs.Marks.{mark};
+ghost use Rattle.sides.specs.Walked.{noted, Walks, Walked, Found};
+use table::Checked;
+use table::Refusal;
 
 // The most rows that a tree has.
 pub const ROWS: usize = 125;
 
+// The most nodes that a tree has.
+const NODES: usize = 126;
+
+// The check of a table, with the rows at each node and the side of every row where it is a tree.
+pub struct Looked {
+    pub answer: Checked,
+    pub near: [u8; near::PLACES],
+    pub sides: [u64; ROWS],
+}
+
 // Stores the side of row e, s being the taxa with its end v.
 fn note(n: usize, t: &[u8], sides: &mut [u64; ROWS], e: usize, v: usize, s: u64)
-    requires { ⌜ (At n (now t) e v) × (s ≡ part n (now t) e v % 2 ^ n) ⌝ }
-    ensures { λ _. ⌜ now (sides .exit) ≡ set (now (sides .entry)) e (side n (now (t .entry)) e) ⌝ }
+    requires { ⌜ (4 ≤ n) × (n ≤ most) × (2 * e + 1 < length (now t)) × (e < rows most) ⌝ }
+    ensures { λ _. ⌜ now (sides .exit) ≡ set (now (sides .entry)) e (noted n (now (t .entry)) e v s) ⌝ }
 {
     if table::lo(t, e) == v {
         sides[e] = s;
@@ -25,11 +40,23 @@ fn note(n: usize, t: &[u8], sides: &mut [u64; ROWS], e: usize, v: usize, s: u64)
     sides[e] = taxa::less(all, s);
 }
 
-// The taxa with row e's end v; the sides of e and of every row that lies there are stored.
-fn fill(n: usize, t: &[u8], near: &[u8], sides: &mut [u64; ROWS], e: usize, v: usize) -> u64
-    requires { ⌜ (At n (now t) e v) × (Near n (now t) (now near)) × (length (now sides) ≡ rows most) ⌝ }
-    ensures { λ s. ⌜ (s ≡ part n (now (t .entry)) e v % 2 ^ n) × (Filled n (now (t .entry)) e v (now (sides .entry)) (now (sides .exit))) ⌝ }
+// The taxa with row e's end v. Every node that can be reached there over nodes that are not marked yet is marked, and the sides of the rows there are stored.
+fn walk(
+    n: usize,
+    t: &[u8],
+    near: &[u8; near::PLACES],
+    marks: &mut [u8; NODES],
+    sides: &mut [u64; ROWS],
+    e: usize,
+    v: usize,
+) -> u64
+    requires { ⌜ Walks n (now t) (now near) (now marks) (now sides) e v ⌝ }
+    ensures { λ s. ⌜ Walked n (now (t .entry)) e v (now (marks .entry)) (now (marks .exit)) (now (sides .entry)) (now (sides .exit)) s ⌝ }
 {
+    if marks[v] != 0 {
+        return 0;
+    }
+    marks[v] = 1;
     if v < n {
         let s = taxa::only(v);
         note(n, t, sides, e, v, s);
@@ -39,22 +66,76 @@ fn fill(n: usize, t: &[u8], near: &[u8], sides: &mut [u64; ROWS], e: usize, v: u
     let f = o.f;
     let g = o.g;
     let a = table::far(t, f, v);
-    let p = fill(n, t, near, sides, f, a);
+    let p = walk(n, t, near, marks, sides, f, a);
     let b = table::far(t, g, v);
-    let q = fill(n, t, near, sides, g, b);
+    let q = walk(n, t, near, marks, sides, g, b);
     let s = p | q;
     note(n, t, sides, e, v, s);
     s
 }
 
-// The side of every row.
-pub fn sides(n: usize, t: &[u8], near: &[u8]) -> [u64; ROWS]
-    requires { ⌜ (Accepted n (now t)) × (Near n (now t) (now near)) ⌝ }
-    ensures { λ s. ⌜ Sides n (now (t .entry)) s ⌝ }
+// Whether each of the nodes is marked.
+fn all_marked(n: usize, marks: &[u8; NODES]) -> bool
+    requires { ⌜ (4 ≤ n) × (n ≤ most) ⌝ }
+    ensures { λ b. ⌜ b ≡ every (mark (now (marks .entry))) (nodes n) ⌝ }
 {
-    let mut out = [0u64; ROWS];
+    let m = 2 * n - 2;
+    let mut v: usize = 0;
+    while v < m {
+        if marks[v] == 0 {
+            return false;
+        }
+        v += 1;
+    }
+    true
+}
+
+// Whether every node can be reached from node 0. Where it can, the side of every row is stored.
+fn all_reached(n: usize, t: &[u8], near: &[u8; near::PLACES], sides: &mut [u64; ROWS]) -> bool
+    requires { ⌜ (Rowed n (now t)) × (Near n (now t) (now near)) × (length (now sides) ≡ rows most) ⌝ }
+    ensures { λ b. ⌜ (b ≡ every (fromZero n (now (t .entry))) (nodes n)) × (Accepted n (now (t .entry)) → Sides n (now (t .entry)) (now (sides .exit))) ⌝ }
+{
+    let mut marks = [0u8; NODES];
+    marks[0] = 1;
     let e = near::row_at(near, 0, 0);
     let v = table::far(t, e, 0);
-    fill(n, t, near, &mut out, e, v);
-    out
+    walk(n, t, near, &mut marks, sides, e, v);
+    all_marked(n, &marks)
+}
+
+// The check of a tree, with the rows at each node and the side of every row of one.
+pub fn look(n: usize, t: &[u8]) -> Looked
+    ensures { λ l. ⌜ Found n (now (t .entry)) (l .answer) (l .near) (l .sides) ⌝ }
+{
+    match table::check_rows(n, t) {
+        Checked::Refused(r) => Looked {
+            answer: Checked::Refused(r),
+            near: [near::FREE; near::PLACES],
+            sides: [0u64; ROWS],
+        },
+        Checked::Tree => {
+            let near = near::rows_at(n, t);
+            let mut sides = [0u64; ROWS];
+            if all_reached(n, t, &near, &mut sides) {
+                return Looked {
+                    answer: Checked::Tree,
+                    near,
+                    sides,
+                };
+            }
+            Looked {
+                answer: Checked::Refused(Refusal::Unreached),
+                near,
+                sides,
+            }
+        }
+    }
+}
+
+// The check of a tree: refusals 1 to 5.
+pub fn check_tree(n: usize, t: &[u8]) -> Checked
+    ensures { λ r. ⌜ checkSays r ≡ treeSaid n (now (t .entry)) ⌝ }
+{
+    let l = look(n, t);
+    l.answer
 }

@@ -1,9 +1,8 @@
 // The induced splits of a tree over a partition, and the comparison of two trees.
-ghost use Prim.Native.Nat.{ℕ, _+_, _*_, _-_, _^_, _<_, _≤_};
+ghost use Prim.Native.Nat.{_+_, _*_, _-_, _^_, _<_, _≤_};
 ghost use mathlib.Core.Path.{_≡_};
-ghost use mathlib.Core.List.{_++_};
 ghost use lib.Bits.{bitAnd};
-ghost use lib.ListN.{length, getD, take, drop};
+ghost use lib.ListN.{length, take};
 ghost use Rattle.taxa.specs.Most.{most};
 ghost use Rattle.taxa.specs.Sets.{pick, has, less};
 ghost use Rattle.tree.specs.Tree.{rows};
@@ -11,7 +10,7 @@ ghost use Rattle.tree.specs.Splits as splits_spec;
 ghost use Rattle.tree.specs.Lists.{lacks, firstLack};
 ghost use Rattle.tree.specs.Refusals.{Accepted, gives};
 ghost use Rattle.tree.proofs.Lists.{Asc};
-ghost use Rattle.near.specs.Near.{Near};
+ghost use Rattle.sides.specs.Filled.{Sides};
 ghost use Rattle.splits.specs.Listed.{added, splitsOf, Listed};
 ghost use Rattle.splits.specs.Promises.{Induces, compareSays, comparedSaid};
 use table::Checked;
@@ -83,17 +82,16 @@ fn members(m: usize) -> usize
 }
 
 // Lists the induced splits of a tree over y; how many there are.
-fn tree_splits(n: usize, t: &[u8], near: &[u8], y: u64, out: &mut [u64]) -> usize
-    requires { ⌜ (Accepted n (now t)) × (Near n (now t) (now near)) × (y < 2 ^ n) × (length (splits_spec.splits n (now t) y) ≤ length (now out)) ⌝ }
+fn tree_splits(n: usize, t: &[u8], s: &[u64; sides::ROWS], y: u64, out: &mut [u64]) -> usize
+    requires { ⌜ (Accepted n (now t)) × (Sides n (now t) (now s)) × (y < 2 ^ n) × (length (splits_spec.splits n (now t) y) ≤ length (now out)) ⌝ }
     ensures { λ r. ⌜ Listed (splits_spec.splits n (now (t .entry)) y) (now (out .entry)) r (now (out .exit)) ⌝ }
 {
-    let s = sides::sides(n, t, near);
-    list(n, &s, y, out)
+    list(n, s, y, out)
 }
 
 // The same where the partition names none but the n taxa and the room suffices: refusals 6 and 11.
-fn induced_tree(n: usize, t: &[u8], near: &[u8], y: u64, out: &mut [u64]) -> Induced
-    requires { ⌜ (Accepted n (now t)) × (Near n (now t) (now near)) ⌝ }
+fn induced_tree(n: usize, t: &[u8], s: &[u64; sides::ROWS], y: u64, out: &mut [u64]) -> Induced
+    requires { ⌜ (Accepted n (now t)) × (Sides n (now t) (now s)) ⌝ }
     ensures { λ r. ⌜ Induces n (now (t .entry)) y (now (out .entry)) r (now (out .exit)) ⌝ }
 {
     if !taxa::within(y, n) {
@@ -103,19 +101,19 @@ fn induced_tree(n: usize, t: &[u8], near: &[u8], y: u64, out: &mut [u64]) -> Ind
     if out.len() < members(m) {
         return Induced::Refused(Refusal::Room);
     }
-    Induced::Count(tree_splits(n, t, near, y, out))
+    Induced::Count(tree_splits(n, t, s, y, out))
 }
 
 // The induced splits of a tree over y, ascending, each once, written into out: refusals 1 to 6 and 11.
 pub fn induced_splits(n: usize, t: &[u8], y: u64, out: &mut [u64]) -> Induced
     ensures { λ r. ⌜ Induces n (now (t .entry)) y (now (out .entry)) r (now (out .exit)) ⌝ }
 {
-    let l = near::look(n, t);
-    let near = l.near;
+    let l = sides::look(n, t);
+    let s = l.sides;
     let answer = l.answer;
     match answer {
         Checked::Refused(r) => Induced::Refused(r),
-        Checked::Tree => induced_tree(n, t, &near, y, out),
+        Checked::Tree => induced_tree(n, t, &s, y, out),
     }
 }
 
@@ -130,9 +128,16 @@ fn compare_lists(a: &[u64], b: &[u64]) -> Compared
     Compared::Apart(lost + gained, first)
 }
 
-// The comparison over y of the tree t, whose rows at each node are a, and the tree u, whose are b.
-fn compare_trees(n: usize, t: &[u8], a: &[u8], u: &[u8], b: &[u8], y: u64) -> Compared
-    requires { ⌜ (Accepted n (now t)) × (Near n (now t) (now a)) × (Accepted n (now u)) × (Near n (now u) (now b)) × (y < 2 ^ n) ⌝ }
+// The comparison over y of the tree t, whose sides are a, and the tree u, whose are b.
+fn compare_trees(
+    n: usize,
+    t: &[u8],
+    a: &[u64; sides::ROWS],
+    u: &[u8],
+    b: &[u64; sides::ROWS],
+    y: u64,
+) -> Compared
+    requires { ⌜ (Accepted n (now t)) × (Sides n (now t) (now a)) × (Accepted n (now u)) × (Sides n (now u) (now b)) × (y < 2 ^ n) ⌝ }
     ensures { λ r. ⌜ compareSays r ≡ gives (splits_spec.dist n (now (t .entry)) (now (u .entry)) y, splits_spec.missing n (now (t .entry)) (now (u .entry)) y) ⌝ }
 {
     let mut first = [0u64; sides::ROWS];
@@ -143,12 +148,12 @@ fn compare_trees(n: usize, t: &[u8], a: &[u8], u: &[u8], b: &[u8], y: u64) -> Co
 }
 
 // The same where the first tree is one: refusals 2 to 5 of the second, and 6.
-fn compare_second(n: usize, t: &[u8], a: &[u8], u: &[u8], y: u64) -> Compared
-    requires { ⌜ (Accepted n (now t)) × (Near n (now t) (now a)) ⌝ }
+fn compare_second(n: usize, t: &[u8], a: &[u64; sides::ROWS], u: &[u8], y: u64) -> Compared
+    requires { ⌜ (Accepted n (now t)) × (Sides n (now t) (now a)) ⌝ }
     ensures { λ r. ⌜ compareSays r ≡ comparedSaid n (now (t .entry)) (now (u .entry)) y ⌝ }
 {
-    let l = near::look(n, u);
-    let b = l.near;
+    let l = sides::look(n, u);
+    let b = l.sides;
     let answer = l.answer;
     match answer {
         Checked::Refused(r) => Compared::Refused(r),
@@ -165,11 +170,11 @@ fn compare_second(n: usize, t: &[u8], a: &[u8], u: &[u8], y: u64) -> Compared
 pub fn compare(n: usize, t: &[u8], u: &[u8], y: u64) -> Compared
     ensures { λ r. ⌜ compareSays r ≡ comparedSaid n (now (t .entry)) (now (u .entry)) y ⌝ }
 {
-    let l = near::look(n, t);
-    let near = l.near;
+    let l = sides::look(n, t);
+    let s = l.sides;
     let answer = l.answer;
     match answer {
         Checked::Refused(r) => Compared::Refused(r),
-        Checked::Tree => compare_second(n, t, &near, u, y),
+        Checked::Tree => compare_second(n, t, &s, u, y),
     }
 }

@@ -1,304 +1,26 @@
 // Cases of document 01 up to the moves, run: a line for each, the number that matters first.
-use libc::STDOUT_FILENO;
+use prints::line;
+use prints::numbers;
+use prints::put;
+use prints::say;
+use samples::APART;
+use samples::FOUR;
+use samples::MARK;
+use samples::S;
+use samples::S_AGAIN;
+use samples::S_MOVED;
 use splits::Compared;
 use splits::Induced;
 use table::Checked;
 
-// Tree S of document 01: taxa 0 to 5 along a line.
-const S: [u8; 18] = [0, 6, 1, 6, 6, 7, 2, 7, 7, 8, 3, 8, 8, 9, 4, 9, 5, 9];
-
-// The same tree with its rows in another order and its inner nodes renumbered.
-const S_AGAIN: [u8; 18] = [5, 7, 2, 8, 0, 9, 6, 8, 1, 9, 4, 7, 8, 9, 3, 6, 6, 7];
-
-// Tree S after the exchange of rows 3 and 5 across row 4.
-const S_MOVED: [u8; 18] = [0, 6, 1, 6, 6, 7, 2, 8, 7, 8, 3, 7, 8, 9, 4, 9, 5, 9];
-
-// 64 taxa along a line, the largest tree.
-const COMB: [u8; 250] = [
-    0,
-    64,
-    1,
-    64,
-    64,
-    65,
-    2,
-    65,
-    65,
-    66,
-    3,
-    66,
-    66,
-    67,
-    4,
-    67,
-    67,
-    68,
-    5,
-    68,
-    68,
-    69,
-    6,
-    69,
-    69,
-    70,
-    7,
-    70,
-    70,
-    71,
-    8,
-    71,
-    71,
-    72,
-    9,
-    72,
-    72,
-    73,
-    10,
-    73,
-    73,
-    74,
-    11,
-    74,
-    74,
-    75,
-    12,
-    75,
-    75,
-    76,
-    13,
-    76,
-    76,
-    77,
-    14,
-    77,
-    77,
-    78,
-    15,
-    78,
-    78,
-    79,
-    16,
-    79,
-    79,
-    80,
-    17,
-    80,
-    80,
-    81,
-    18,
-    81,
-    81,
-    82,
-    19,
-    82,
-    82,
-    83,
-    20,
-    83,
-    83,
-    84,
-    21,
-    84,
-    84,
-    85,
-    22,
-    85,
-    85,
-    86,
-    23,
-    86,
-    86,
-    87,
-    24,
-    87,
-    87,
-    88,
-    25,
-    88,
-    88,
-    89,
-    26,
-    89,
-    89,
-    90,
-    27,
-    90,
-    90,
-    91,
-    28,
-    91,
-    91,
-    92,
-    29,
-    92,
-    92,
-    93,
-    30,
-    93,
-    93,
-    94,
-    31,
-    94,
-    94,
-    95,
-    32,
-    95,
-    95,
-    96,
-    33,
-    96,
-    96,
-    97,
-    34,
-    97,
-    97,
-    98,
-    35,
-    98,
-    98,
-    99,
-    36,
-    99,
-    99,
-    100,
-    37,
-    100,
-    100,
-    101,
-    38,
-    101,
-    101,
-    102,
-    39,
-    102,
-    102,
-    103,
-    40,
-    103,
-    103,
-    104,
-    41,
-    104,
-    104,
-    105,
-    42,
-    105,
-    105,
-    106,
-    43,
-    106,
-    106,
-    107,
-    44,
-    107,
-    107,
-    108,
-    45,
-    108,
-    108,
-    109,
-    46,
-    109,
-    109,
-    110,
-    47,
-    110,
-    110,
-    111,
-    48,
-    111,
-    111,
-    112,
-    49,
-    112,
-    112,
-    113,
-    50,
-    113,
-    113,
-    114,
-    51,
-    114,
-    114,
-    115,
-    52,
-    115,
-    115,
-    116,
-    53,
-    116,
-    116,
-    117,
-    54,
-    117,
-    117,
-    118,
-    55,
-    118,
-    118,
-    119,
-    56,
-    119,
-    119,
-    120,
-    57,
-    120,
-    120,
-    121,
-    58,
-    121,
-    121,
-    122,
-    59,
-    122,
-    122,
-    123,
-    60,
-    123,
-    123,
-    124,
-    61,
-    124,
-    124,
-    125,
-    62,
-    125,
-    63,
-    125,
-];
-
-// A mark that no answer writes.
-const MARK: u64 = 999;
-
-// Writes words and ends the line.
-fn line(words: &[u8]) {
-    io::write_all(STDOUT_FILENO, words);
-    io::write_all(STDOUT_FILENO, b"\n");
-}
-
-// Writes a number and a blank.
-fn say(k: u64) {
-    io::print_decimal(STDOUT_FILENO, k);
-    io::write_all(STDOUT_FILENO, b" ");
-}
-
 // A line for the check of a table: 0 or the refusal's number, then words.
 fn check(n: usize, t: &[u8], words: &[u8]) {
-    let c = near::check_tree(n, t);
+    let c = sides::check_tree(n, t);
     match c {
         Checked::Tree => say(0),
         Checked::Refused(r) => say(table::number(r) as u64),
     }
     line(words);
-}
-
-// Writes the numbers of a list.
-fn numbers(l: &[u64]) {
-    let mut i: usize = 0;
-    while i < l.len() {
-        say(l[i]);
-        i += 1;
-    }
 }
 
 // Two lines for a list of splits: how many, or the refusal; and the whole lent list after the call.
@@ -307,11 +29,11 @@ fn list(n: usize, t: &[u8], y: u64, out: &mut [u64], words: &[u8]) {
     match c {
         Induced::Count(k) => {
             say(k as u64);
-            io::write_all(STDOUT_FILENO, b"splits ");
+            put(b"splits ");
         }
         Induced::Refused(r) => {
             say(table::number(r) as u64);
-            io::write_all(STDOUT_FILENO, b"refused ");
+            put(b"refused ");
         }
     }
     line(words);
@@ -325,17 +47,18 @@ fn compare(n: usize, t: &[u8], u: &[u8], y: u64, words: &[u8]) {
     match c {
         Compared::Apart(d, x) => {
             say(d as u64);
-            io::write_all(STDOUT_FILENO, b"apart, missing ");
+            put(b"apart, missing ");
             say(x);
         }
         Compared::Refused(r) => {
             say(table::number(r) as u64);
-            io::write_all(STDOUT_FILENO, b"refused ");
+            put(b"refused ");
         }
     }
     line(words);
 }
 
+// Checks tree S in two forms, then tables whose count or length is wrong, for refusals 1 and 2.
 fn counts_and_lengths() {
     check(6, &S, b"tree S");
     check(6, &S_AGAIN, b"tree S, rows and inner nodes renumbered");
@@ -348,8 +71,9 @@ fn counts_and_lengths() {
     check(6, b"", b"an empty table");
 }
 
+// Checks the smallest tree, then the ways in which its rows can be wrong, for refusals 3 to 5.
 fn rows_and_nodes() {
-    check(4, &[0, 4, 1, 4, 4, 5, 2, 5, 3, 5], b"the smallest tree");
+    check(4, &FOUR, b"the smallest tree");
     check(
         4,
         &[0, 4, 1, 4, 4, 6, 2, 5, 3, 5],
@@ -363,11 +87,7 @@ fn rows_and_nodes() {
         &[0, 4, 1, 4, 2, 4, 3, 4, 4, 5],
         b"an inner node at five rows",
     );
-    check(
-        4,
-        &[0, 1, 4, 5, 4, 5, 2, 4, 3, 5],
-        b"a node that cannot be reached",
-    );
+    check(4, &APART, b"a node that cannot be reached");
     check(
         4,
         &[0, 1, 4, 5, 4, 5, 2, 4, 5, 3],
@@ -376,8 +96,9 @@ fn rows_and_nodes() {
     check(4, &[0, 1, 2, 3, 4, 5, 4, 5, 4, 5], b"three parts");
 }
 
+// Checks and compares the largest tree, which fills the arrays of the code.
 fn largest() {
-    let mut t = COMB;
+    let mut t = samples::along();
     check(64, &t, b"64 taxa along a line");
     check(63, &t, b"the same for 63 taxa");
     compare(64, &t, &t, 18446744073709551615, b"64 taxa with themselves");
@@ -385,6 +106,7 @@ fn largest() {
     check(64, &t, b"taxon 1 at two rows and taxon 0 at none");
 }
 
+// Lists the splits of tree S over partitions of each size, with room enough, to spare and too little.
 fn lists_of_s() {
     list(6, &S, 63, &mut [MARK; 9], b"S over all taxa");
     list(
@@ -411,6 +133,7 @@ fn lists_of_s() {
     list(2, &S, 64, &mut [MARK; 1], b"two taxa and bit 6");
 }
 
+// Compares tree S with itself and with another tree, then what a comparison refuses.
 fn comparisons() {
     compare(6, &S, &S_AGAIN, 63, b"one tree, renumbered");
     compare(6, &S, &S_MOVED, 63, b"S and S with 2 and 3 exchanged");
@@ -431,6 +154,7 @@ fn comparisons() {
     compare(65, &S, &S, 0, b"65 taxa");
 }
 
+// Runs the cases in the order of the stored output.
 fn main() {
     counts_and_lengths();
     rows_and_nodes();

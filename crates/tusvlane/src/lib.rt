@@ -63,7 +63,7 @@ fn refused(r: Refusal) -> Answer
 pub extern "C" fn tusvlane_check_tree(n: usize, table: &[u8]) -> u32
     ensures { λ r. ⌜ r ≡ codeOf (treeSaid n (now (table .entry))) ⌝ }
 {
-    match near::check_tree(n, table) {
+    match sides::check_tree(n, table) {
         Checked::Tree => 0,
         Checked::Refused(r) => table::number(r) as u32,
     }

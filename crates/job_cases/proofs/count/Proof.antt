@@ -1,13 +1,18 @@
 -- `job_cases::count` meets its contract. Assumes nothing.
-use mathlib.Core.Path.{_≡_}
+use mathlib.Core.Path.{sym, ap, _∙_, _≡_}
+use Prim.Native.Nat.{_≤_}
+use native.Mathlib.Omega.{arith}
+use lib.Seq.{length-take-le}
 use lib.ListN.{length}
+use Rattle.job.specs.Steps.{steppedSays}
+use Rattle.job.proofs.RoomLaws.{wrote-fits}
 use borrow.Author.Needs.{needs}
 use Rattle.job_cases.proofs.count.Statement.{statement}
 use Rattle.job_cases.proofs.count.Tie as tie
 
 abbrev Inv-loop : tie.InvT-loop
 Inv-loop input tree₀ parts₀ out₀ s₀ lines₀ last₀ left₀ tree parts out s lines last left =
-    (length tree ≡ 250) × (length parts ≡ 64) × (length out ≡ 8192)
+    (length tree ≡ 250) × (length parts ≡ 64) × (length out ≡ 8192) × (last ≤ 8192)
 
 abbrev μ-loop : tie.MeasureT-loop
 μ-loop input tree₀ parts₀ out₀ s₀ lines₀ last₀ left₀ tree parts out s lines last left =
@@ -34,8 +39,13 @@ step-requires c κs = search needs
 enum-known-state : tie.Need-enum-known-state Inv-loop μ-loop
 enum-known-state c = search needs
 
+array-share-prefix-out : tie.Need-array-share-prefix-out Inv-loop μ-loop
+array-share-prefix-out c =
+    omega (arith, wrote-fits (c .before .before .before .before .before .before .before .before .before .before .before .before .before .before .args .input .now) (c .before .before .before .before .before .before .before .before .before .before .before .loop .s) (c .before .before .before .before .before .before .before .before .before .before .before .loop .tree) (c .before .before .before .before .before .before .before .before .before .before .before .loop .parts) (length (c .before .before .before .before .before .before .before .before .before .before .before .loop .out)) (c .before .state .given .0 .0) (c .before .state .given .0 .1 .0) (sym (ap steppedSays (c .before .state .given .1)) ∙ c .before .before .before .before .before .before .step .ensures .says))
+
 slice-aggregate-feeds : tie.Need-slice-aggregate-feeds Inv-loop μ-loop
-slice-aggregate-feeds c = search needs
+slice-aggregate-feeds c =
+    sym (length-take-le _ _ (omega (arith, wrote-fits (c .before .before .before .before .before .before .before .before .before .before .before .before .before .before .before .args .input .now) (c .before .before .before .before .before .before .before .before .before .before .before .before .loop .s) (c .before .before .before .before .before .before .before .before .before .before .before .before .loop .tree) (c .before .before .before .before .before .before .before .before .before .before .before .before .loop .parts) (length (c .before .before .before .before .before .before .before .before .before .before .before .before .loop .out)) (c .before .before .state .given .0 .0) (c .before .before .state .given .0 .1 .0) (sym (ap steppedSays (c .before .before .state .given .1)) ∙ c .before .before .before .before .before .before .before .step .ensures .says))))
 
 feeds-requires : tie.Need-feeds-requires Inv-loop μ-loop
 feeds-requires c κs = search needs
@@ -80,7 +90,8 @@ loop-less : tie.Need-loop-less Inv-loop μ-loop
 loop-less c = search needs
 
 loop-again : tie.Need-loop-again Inv-loop μ-loop
-loop-again c = search needs
+loop-again c =
+    (search needs, search needs, search needs, omega (arith, wrote-fits (c .before .before .before .before .before .before .before .before .before .before .before .before .before .before .before .before .before .args .input .now) (c .before .before .before .before .before .before .before .before .before .before .before .before .before .before .loop .s) (c .before .before .before .before .before .before .before .before .before .before .before .before .before .before .loop .tree) (c .before .before .before .before .before .before .before .before .before .before .before .before .before .before .loop .parts) (length (c .before .before .before .before .before .before .before .before .before .before .before .before .before .before .loop .out)) (c .before .before .before .before .state .given .0 .0) (c .before .before .before .before .state .given .0 .1 .0) (sym (ap steppedSays (c .before .before .before .before .state .given .1)) ∙ c .before .before .before .before .before .before .before .before .before .step .ensures .says)))
 
 returns-3 : tie.Need-returns-3 Inv-loop μ-loop
 returns-3 c = search needs
@@ -98,6 +109,7 @@ count-spec =
     slice-aggregate-step-3
     step-requires
     enum-known-state
+    array-share-prefix-out
     slice-aggregate-feeds
     feeds-requires
     wrapping-add-u64-requires

@@ -1,22 +1,23 @@
 -- `job_cases::feeds` meets its contract. Assumes nothing.
 use Prim.Native.Nat.{_≤_, _-_}
+use lib.ListN.{length}
 use borrow.Author.Needs.{needs}
 use Rattle.job_cases.proofs.feeds.Statement.{statement}
 use Rattle.job_cases.proofs.feeds.Tie as tie
 
 abbrev Inv-loop : tie.InvT-loop
-Inv-loop lines wrote k₀ i₀ k i =
-    i ≤ wrote
+Inv-loop lines k₀ i₀ k i =
+    i ≤ length lines
 
 abbrev μ-loop : tie.MeasureT-loop
-μ-loop lines wrote k₀ i₀ k i =
-    wrote - i
+μ-loop lines k₀ i₀ k i =
+    length lines - i
 
 loop-holds : tie.Need-loop-holds Inv-loop μ-loop
 loop-holds c = search needs
 
-shared-slice-read-if2 : tie.Need-shared-slice-read-if2 Inv-loop μ-loop
-shared-slice-read-if2 c = search needs
+shared-slice-read-if1 : tie.Need-shared-slice-read-if1 Inv-loop μ-loop
+shared-slice-read-if1 c = search needs
 
 wrapping-add-u64-requires : tie.Need-wrapping-add-u64-requires Inv-loop μ-loop
 wrapping-add-u64-requires c κs = search needs
@@ -40,7 +41,7 @@ feeds-spec =
     Inv-loop
     μ-loop
     loop-holds
-    shared-slice-read-if2
+    shared-slice-read-if1
     wrapping-add-u64-requires
     add-i
     loop-less

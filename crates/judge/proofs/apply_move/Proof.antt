@@ -1,5 +1,5 @@
 -- `judge::apply_move` meets its contract. Assumes nothing.
-use Rattle.near.proofs.LookLaws.{found-tree-is, found-refused}
+use Rattle.sides.proofs.LookLaws.{found-tree-is, found-refused}
 use Rattle.fits.specs.Bytes.{moveOf}
 use Rattle.judge.proofs.SaidLaws.{moves-no-tree}
 use borrow.Author.Needs.{needs}
@@ -18,16 +18,19 @@ enum-told c = search needs
 slice-aggregate-apply-tree : tie.Need-slice-aggregate-apply-tree
 slice-aggregate-apply-tree c = search needs
 
+slice-aggregate-apply-tree-2 : tie.Need-slice-aggregate-apply-tree-2
+slice-aggregate-apply-tree-2 c = search needs
+
 apply-tree-requires : tie.Need-apply-tree-requires
 apply-tree-requires c κs =
-    found-tree-is (c .before .before .before .before .before .before .before .before .args .n) (c .before .before .before .before .before .before .before .before .args .t .now) _ _ (c .before .before .before .before .before .look .ensures) (c .before .before .enum-told .given .1)
+    found-tree-is (c .before .before .before .before .before .before .before .before .before .before .args .n) (c .before .before .before .before .before .before .before .before .before .before .args .t .now) _ _ _ (c .before .before .before .before .before .before .before .look .ensures) (c .before .before .before .enum-told .given .1)
 
 same-length : tie.Need-same-length
 same-length c = search needs
 
 returns : tie.Need-returns
 returns c =
-    moves-no-tree (c .before .before .before .before .before .before .before .args .n) (c .before .before .before .before .before .before .before .args .t .now) (moveOf (c .before .before .before .before .before .before .before .args .m)) _ (found-refused (c .before .before .before .before .before .before .before .args .n) (c .before .before .before .before .before .before .before .args .t .now) _ _ _ (c .before .before .before .before .look .ensures) (c .before .answer .given .1))
+    moves-no-tree (c .before .before .before .before .before .before .before .before .args .n) (c .before .before .before .before .before .before .before .before .args .t .now) (moveOf (c .before .before .before .before .before .before .before .before .args .m)) _ (found-refused (c .before .before .before .before .before .before .before .before .args .n) (c .before .before .before .before .before .before .before .before .args .t .now) _ _ _ _ (c .before .before .before .before .before .look .ensures) (c .before .answer .given .1))
 
 same-length-2 : tie.Need-same-length-2
 same-length-2 c = search needs
@@ -44,6 +47,7 @@ apply-move-spec =
     enum-known-answer
     enum-told
     slice-aggregate-apply-tree
+    slice-aggregate-apply-tree-2
     apply-tree-requires
     same-length
     returns

@@ -8,12 +8,6 @@ use borrow.Author.Needs.{needs}
 use Rattle.judge.proofs.apply_tree.Statement.{statement}
 use Rattle.judge.proofs.apply_tree.Tie as tie
 
-sides-requires : tie.Need-sides-requires
-sides-requires c κs = search needs
-
-slice-aggregate-fit-of : tie.Need-slice-aggregate-fit-of
-slice-aggregate-fit-of c = search needs
-
 fit-of-requires : tie.Need-fit-of-requires
 fit-of-requires c κs = search needs
 
@@ -23,37 +17,31 @@ enum-known-fit c = search needs
 enum-told : tie.Need-enum-told
 enum-told c = search needs
 
-slice-aggregate-rewrite-rows : tie.Need-slice-aggregate-rewrite-rows
-slice-aggregate-rewrite-rows c = search needs
-
 rewrite-rows-requires : tie.Need-rewrite-rows-requires
 rewrite-rows-requires c κs =
-    record { good = c .before .before .before .before .before .before .before .before .before .before .before .pre .0; rows = c .before .before .before .before .before .before .before .before .before .before .before .pre .1; sides = c .before .before .before .before .before .before .before .sides .ensures; fits = gives-pass (moveChecks (c .before .before .before .before .before .before .before .before .before .before .before .args .n) (c .before .before .before .before .before .before .before .before .before .before .before .args .t .now) (moveOf (c .before .before .before .before .before .before .before .before .before .before .before .args .m))) tt tt (sym (c .before .before .before .before .fit-of .ensures) ∙ ap fittedSays (c .before .before .enum-told .given .1)) }
+    record { good = c .before .before .before .before .before .before .before .before .pre .0; rows = c .before .before .before .before .before .before .before .before .pre .1; sides = c .before .before .before .before .before .before .before .before .pre .2; fits = gives-pass (moveChecks (c .before .before .before .before .before .before .before .before .args .n) (c .before .before .before .before .before .before .before .before .args .t .now) (moveOf (c .before .before .before .before .before .before .before .before .args .m))) tt tt (sym (c .before .before .before .fit-of .ensures) ∙ ap fittedSays (c .before .enum-told .given .1)) }
 
 same-length : tie.Need-same-length
 same-length c = search needs
 
 returns : tie.Need-returns
 returns c =
-    moves-unfit (c .before .before .before .before .before .before .before .before .before .before .args .n) (c .before .before .before .before .before .before .before .before .before .before .args .t .now) (moveOf (c .before .before .before .before .before .before .before .before .before .before .args .m)) (c .before .before .before .before .before .before .before .before .before .before .pre .0) _ (sym (c .before .before .before .fit-of .ensures) ∙ ap fittedSays (c .before .fit .given .1))
+    moves-unfit (c .before .before .before .before .before .before .before .before .args .n) (c .before .before .before .before .before .before .before .before .args .t .now) (moveOf (c .before .before .before .before .before .before .before .before .args .m)) (c .before .before .before .before .before .before .before .before .pre .0) _ (sym (c .before .before .before .fit-of .ensures) ∙ ap fittedSays (c .before .fit .given .1))
 
 same-length-2 : tie.Need-same-length-2
 same-length-2 c = search needs
 
 returns-2 : tie.Need-returns-2
 returns-2 c =
-    moves-done (c .before .before .before .before .before .before .before .before .before .before .before .before .before .before .args .n) (c .before .before .before .before .before .before .before .before .before .before .before .before .before .before .args .t .now) (moveOf (c .before .before .before .before .before .before .before .before .before .before .before .before .before .before .args .m)) (c .before .before .before .before .before .before .before .before .before .before .before .before .before .before .pre .0) _ (sym (c .before .before .before .before .before .before .before .fit-of .ensures) ∙ ap fittedSays (c .before .before .before .before .before .enum-told .given .1)) (c .before .before .rewrite-rows .ensures)
+    moves-done (c .before .before .before .before .before .before .before .before .before .before .before .args .n) (c .before .before .before .before .before .before .before .before .before .before .before .args .t .now) (moveOf (c .before .before .before .before .before .before .before .before .before .before .before .args .m)) (c .before .before .before .before .before .before .before .before .before .before .before .pre .0) _ (sym (c .before .before .before .before .before .before .fit-of .ensures) ∙ ap fittedSays (c .before .before .before .before .enum-told .given .1)) (c .before .before .rewrite-rows .ensures)
 
 pub apply-tree-spec : {M : Type 1} → statement M
 apply-tree-spec =
     tie.close
     (tie.spec
-    sides-requires
-    slice-aggregate-fit-of
     fit-of-requires
     enum-known-fit
     enum-told
-    slice-aggregate-rewrite-rows
     rewrite-rows-requires
     same-length
     returns

@@ -1,5 +1,5 @@
 -- `judge::judge_move` meets its contract. Assumes nothing.
-use Rattle.near.proofs.LookLaws.{found-tree-is, found-refused}
+use Rattle.sides.proofs.LookLaws.{found-tree-is, found-refused}
 use Rattle.fits.specs.Bytes.{moveOf}
 use Rattle.judge.proofs.SaidLaws.{judges-no-tree}
 use borrow.Author.Needs.{needs}
@@ -18,13 +18,16 @@ enum-told c = search needs
 slice-aggregate-judge-tree : tie.Need-slice-aggregate-judge-tree
 slice-aggregate-judge-tree c = search needs
 
+slice-aggregate-judge-tree-2 : tie.Need-slice-aggregate-judge-tree-2
+slice-aggregate-judge-tree-2 c = search needs
+
 judge-tree-requires : tie.Need-judge-tree-requires
 judge-tree-requires c κs =
-    found-tree-is (c .before .before .before .before .before .before .before .before .before .args .n) (c .before .before .before .before .before .before .before .before .before .args .t .now) _ _ (c .before .before .before .before .before .look .ensures) (c .before .before .enum-told .given .1)
+    found-tree-is (c .before .before .before .before .before .before .before .before .before .before .before .args .n) (c .before .before .before .before .before .before .before .before .before .before .before .args .t .now) _ _ _ (c .before .before .before .before .before .before .before .look .ensures) (c .before .before .before .enum-told .given .1)
 
 returns : tie.Need-returns
 returns c =
-    judges-no-tree (c .before .before .before .before .before .before .before .before .args .n) (c .before .before .before .before .before .before .before .before .args .t .now) (c .before .before .before .before .before .before .before .before .args .ys .now) (moveOf (c .before .before .before .before .before .before .before .before .args .m)) (c .before .before .before .before .before .before .before .before .args .out .now) _ (found-refused (c .before .before .before .before .before .before .before .before .args .n) (c .before .before .before .before .before .before .before .before .args .t .now) _ _ _ (c .before .before .before .before .look .ensures) (c .before .answer .given .1))
+    judges-no-tree (c .before .before .before .before .before .before .before .before .before .args .n) (c .before .before .before .before .before .before .before .before .before .args .t .now) (c .before .before .before .before .before .before .before .before .before .args .ys .now) (moveOf (c .before .before .before .before .before .before .before .before .before .args .m)) (c .before .before .before .before .before .before .before .before .before .args .out .now) _ (found-refused (c .before .before .before .before .before .before .before .before .before .args .n) (c .before .before .before .before .before .before .before .before .before .args .t .now) _ _ _ _ (c .before .before .before .before .before .look .ensures) (c .before .answer .given .1))
 
 same-length : tie.Need-same-length
 same-length c = search needs
@@ -41,6 +44,7 @@ judge-move-spec =
     enum-known-answer
     enum-told
     slice-aggregate-judge-tree
+    slice-aggregate-judge-tree-2
     judge-tree-requires
     returns
     same-length

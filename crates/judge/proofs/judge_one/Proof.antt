@@ -1,5 +1,5 @@
 -- `judge::judge_one` meets its contract. Assumes nothing.
-use Rattle.near.proofs.LookLaws.{found-tree-is, found-refused}
+use Rattle.sides.proofs.LookLaws.{found-tree-is, found-refused}
 use Rattle.fits.specs.Bytes.{moveOf}
 use Rattle.judge.proofs.SaidLaws.{one-no-tree}
 use borrow.Author.Needs.{needs}
@@ -18,13 +18,16 @@ enum-told c = search needs
 slice-aggregate-one-tree : tie.Need-slice-aggregate-one-tree
 slice-aggregate-one-tree c = search needs
 
+slice-aggregate-one-tree-2 : tie.Need-slice-aggregate-one-tree-2
+slice-aggregate-one-tree-2 c = search needs
+
 one-tree-requires : tie.Need-one-tree-requires
 one-tree-requires c κs =
-    found-tree-is (c .before .before .before .before .before .before .args .n) (c .before .before .before .before .before .before .args .t .now) _ _ (c .before .before .before .before .look .ensures) (c .before .enum-told .given .1)
+    found-tree-is (c .before .before .before .before .before .before .before .before .args .n) (c .before .before .before .before .before .before .before .before .args .t .now) _ _ _ (c .before .before .before .before .before .before .look .ensures) (c .before .before .enum-told .given .1)
 
 returns : tie.Need-returns
 returns c =
-    one-no-tree (c .before .before .before .before .before .before .args .n) (c .before .before .before .before .before .before .args .t .now) (c .before .before .before .before .before .before .args .y) (moveOf (c .before .before .before .before .before .before .args .m)) _ (found-refused (c .before .before .before .before .before .before .args .n) (c .before .before .before .before .before .before .args .t .now) _ _ _ (c .before .before .before .before .look .ensures) (c .before .answer .given .1))
+    one-no-tree (c .before .before .before .before .before .before .before .args .n) (c .before .before .before .before .before .before .before .args .t .now) (c .before .before .before .before .before .before .before .args .y) (moveOf (c .before .before .before .before .before .before .before .args .m)) _ (found-refused (c .before .before .before .before .before .before .before .args .n) (c .before .before .before .before .before .before .before .args .t .now) _ _ _ _ (c .before .before .before .before .before .look .ensures) (c .before .answer .given .1))
 
 returns-2 : tie.Need-returns-2
 returns-2 c =
@@ -38,6 +41,7 @@ judge-one-spec =
     enum-known-answer
     enum-told
     slice-aggregate-one-tree
+    slice-aggregate-one-tree-2
     one-tree-requires
     returns
     returns-2)

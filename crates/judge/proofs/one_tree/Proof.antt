@@ -12,17 +12,11 @@ use Rattle.judge.proofs.one_tree.Tie as tie
 
 within-requires : tie.Need-within-requires
 within-requires c κs =
-    (omega (arith, c .before .before .pre .0 .valid .big), c .before .before .pre .0 .few)
+    (omega (arith, c .before .before .before .pre .0 .valid .big), c .before .before .before .pre .0 .few)
 
 returns : tie.Need-returns
 returns c =
-    one-6 (c .before .before .before .before .args .n) (c .before .before .before .before .args .t .now) (c .before .before .before .before .args .y) (moveOf (c .before .before .before .before .args .m)) (c .before .before .before .before .pre .0) (sym (c .before .within .ensures) ∙ not-true (c .before .within .result) (c .if1 .taken))
-
-sides-requires : tie.Need-sides-requires
-sides-requires c κs = search needs
-
-slice-aggregate-fit-of : tie.Need-slice-aggregate-fit-of
-slice-aggregate-fit-of c = search needs
+    one-6 (c .before .before .before .before .before .args .n) (c .before .before .before .before .before .args .t .now) (c .before .before .before .before .before .args .y) (moveOf (c .before .before .before .before .before .args .m)) (c .before .before .before .before .before .pre .0) (sym (c .before .within .ensures) ∙ not-true (c .before .within .result) (c .if1 .taken))
 
 fit-of-requires : tie.Need-fit-of-requires
 fit-of-requires c κs = search needs
@@ -33,20 +27,17 @@ enum-known-fit c = search needs
 enum-told : tie.Need-enum-told
 enum-told c = search needs
 
-slice-aggregate-one-groups : tie.Need-slice-aggregate-one-groups
-slice-aggregate-one-groups c = search needs
-
 one-groups-requires : tie.Need-one-groups-requires
 one-groups-requires c κs =
-    (record { good = c .before .before .before .before .before .before .before .before .before .before .pre .0; rows = c .before .before .before .before .before .before .before .before .before .before .pre .1; sides = c .before .before .before .before .before .sides .ensures; fits = gives-pass (moveChecks (c .before .before .before .before .before .before .before .before .before .before .args .n) (c .before .before .before .before .before .before .before .before .before .before .args .t .now) (moveOf (c .before .before .before .before .before .before .before .before .before .before .args .m))) tt tt (sym (c .before .before .before .fit-of .ensures) ∙ ap fittedSays (c .before .enum-told .given .1)) }, ltb-true _ _ (sym (c .before .before .before .before .before .before .before .within .ensures) ∙ not-false (c .before .before .before .before .before .before .before .within .result) (c .before .before .before .before .before .before .if1 .left)))
+    (record { good = c .before .before .before .before .before .before .before .before .pre .0; rows = c .before .before .before .before .before .before .before .before .pre .1; sides = c .before .before .before .before .before .before .before .before .pre .2; fits = gives-pass (moveChecks (c .before .before .before .before .before .before .before .before .args .n) (c .before .before .before .before .before .before .before .before .args .t .now) (moveOf (c .before .before .before .before .before .before .before .before .args .m))) tt tt (sym (c .before .before .fit-of .ensures) ∙ ap fittedSays (c .enum-told .given .1)) }, ltb-true _ _ (sym (c .before .before .before .before .within .ensures) ∙ not-false (c .before .before .before .before .within .result) (c .before .before .before .if1 .left)))
 
 returns-2 : tie.Need-returns-2
 returns-2 c =
-    one-unfit (c .before .before .before .before .before .before .before .before .before .before .args .n) (c .before .before .before .before .before .before .before .before .before .before .args .t .now) (c .before .before .before .before .before .before .before .before .before .before .args .y) (moveOf (c .before .before .before .before .before .before .before .before .before .before .args .m)) (c .before .before .before .before .before .before .before .before .before .before .pre .0) (sym (c .before .before .before .before .before .before .before .within .ensures) ∙ not-false (c .before .before .before .before .before .before .before .within .result) (c .before .before .before .before .before .before .if1 .left)) _ (sym (c .before .before .before .fit-of .ensures) ∙ ap fittedSays (c .before .fit .given .1))
+    one-unfit (c .before .before .before .before .before .before .before .before .before .args .n) (c .before .before .before .before .before .before .before .before .before .args .t .now) (c .before .before .before .before .before .before .before .before .before .args .y) (moveOf (c .before .before .before .before .before .before .before .before .before .args .m)) (c .before .before .before .before .before .before .before .before .before .pre .0) (sym (c .before .before .before .before .before .within .ensures) ∙ not-false (c .before .before .before .before .before .within .result) (c .before .before .before .before .if1 .left)) _ (sym (c .before .before .before .fit-of .ensures) ∙ ap fittedSays (c .before .fit .given .1))
 
 returns-3 : tie.Need-returns-3
 returns-3 c =
-    one-told (c .before .before .before .before .before .before .before .before .before .before .before .args .n) (c .before .before .before .before .before .before .before .before .before .before .before .args .t .now) (c .before .before .before .before .before .before .before .before .before .before .before .args .y) (moveOf (c .before .before .before .before .before .before .before .before .before .before .before .args .m)) (c .before .before .before .before .before .before .before .before .before .before .before .pre .0) (sym (c .before .before .before .before .before .before .before .before .within .ensures) ∙ not-false (c .before .before .before .before .before .before .before .before .within .result) (c .before .before .before .before .before .before .before .if1 .left)) _ (sym (c .before .before .before .before .fit-of .ensures) ∙ ap fittedSays (c .before .before .enum-told .given .1)) (c .one-groups .ensures)
+    one-told (c .before .before .before .before .before .before .before .before .before .args .n) (c .before .before .before .before .before .before .before .before .before .args .t .now) (c .before .before .before .before .before .before .before .before .before .args .y) (moveOf (c .before .before .before .before .before .before .before .before .before .args .m)) (c .before .before .before .before .before .before .before .before .before .pre .0) (sym (c .before .before .before .before .before .within .ensures) ∙ not-false (c .before .before .before .before .before .within .result) (c .before .before .before .before .if1 .left)) _ (sym (c .before .before .before .fit-of .ensures) ∙ ap fittedSays (c .before .enum-told .given .1)) (c .one-groups .ensures)
 
 pub one-tree-spec : {M : Type 1} → statement M
 one-tree-spec =
@@ -54,12 +45,9 @@ one-tree-spec =
     (tie.spec
     within-requires
     returns
-    sides-requires
-    slice-aggregate-fit-of
     fit-of-requires
     enum-known-fit
     enum-told
-    slice-aggregate-one-groups
     one-groups-requires
     returns-2
     returns-3)

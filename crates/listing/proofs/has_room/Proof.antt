@@ -1,12 +1,10 @@
+-- `listing::has_room` meets its contract. Assumes nothing.
 use native.Mathlib.Omega.{arith}
 use mathlib.Core.Path.{sym}
 use Prim.Native.Nat.{_+_}
 use borrow.Author.Tests.{le-leb, lt-leb}
-use borrow.Author.Needs.{needs}
 use Rattle.listing.proofs.has_room.Statement.{statement}
 use Rattle.listing.proofs.has_room.Tie as tie
-use Rattle.listing.proofs.has_room.Reads as reads
-use Rattle.listing.proofs.has_room.Lts as lts
 
 returns : tie.Need-returns
 returns c =

@@ -1,5 +1,5 @@
 -- `listing::list_move` meets its contract. Assumes nothing.
-use Rattle.near.proofs.LookLaws.{found-tree-is, found-refused}
+use Rattle.sides.proofs.LookLaws.{found-tree-is, found-refused}
 use Rattle.fits.specs.Bytes.{moveOf}
 use Rattle.listing.proofs.ListsLaws.{lists-no-tree}
 use borrow.Author.Needs.{needs}
@@ -18,16 +18,19 @@ enum-told c = search needs
 slice-aggregate-list-tree : tie.Need-slice-aggregate-list-tree
 slice-aggregate-list-tree c = search needs
 
+slice-aggregate-list-tree-2 : tie.Need-slice-aggregate-list-tree-2
+slice-aggregate-list-tree-2 c = search needs
+
 list-tree-requires : tie.Need-list-tree-requires
 list-tree-requires c κs =
-    found-tree-is (c .before .before .before .before .before .before .before .before .before .before .before .args .n) (c .before .before .before .before .before .before .before .before .before .before .before .args .t .now) _ _ (c .before .before .before .before .before .before .look .ensures) (c .before .before .before .enum-told .given .1)
+    found-tree-is (c .before .before .before .before .before .before .before .before .before .before .before .before .before .args .n) (c .before .before .before .before .before .before .before .before .before .before .before .before .before .args .t .now) _ _ _ (c .before .before .before .before .before .before .before .before .look .ensures) (c .before .before .before .before .enum-told .given .1)
 
 same-length : tie.Need-same-length
 same-length c = search needs
 
 returns : tie.Need-returns
 returns c =
-    lists-no-tree (c .before .before .before .before .before .before .before .before .before .args .n) (c .before .before .before .before .before .before .before .before .before .args .t .now) (c .before .before .before .before .before .before .before .before .before .args .ys .now) (moveOf (c .before .before .before .before .before .before .before .before .before .args .m)) (c .before .before .before .before .before .before .before .before .before .args .number) (c .before .before .before .before .before .before .before .before .before .args .out .now) (c .before .before .before .before .before .before .before .before .before .args .place) _ (found-refused (c .before .before .before .before .before .before .before .before .before .args .n) (c .before .before .before .before .before .before .before .before .before .args .t .now) _ _ _ (c .before .before .before .before .look .ensures) (c .before .answer .given .1))
+    lists-no-tree (c .before .before .before .before .before .before .before .before .before .before .args .n) (c .before .before .before .before .before .before .before .before .before .before .args .t .now) (c .before .before .before .before .before .before .before .before .before .before .args .ys .now) (moveOf (c .before .before .before .before .before .before .before .before .before .before .args .m)) (c .before .before .before .before .before .before .before .before .before .before .args .number) (c .before .before .before .before .before .before .before .before .before .before .args .out .now) (c .before .before .before .before .before .before .before .before .before .before .args .place) _ (found-refused (c .before .before .before .before .before .before .before .before .before .before .args .n) (c .before .before .before .before .before .before .before .before .before .before .args .t .now) _ _ _ _ (c .before .before .before .before .before .look .ensures) (c .before .answer .given .1))
 
 same-length-2 : tie.Need-same-length-2
 same-length-2 c = search needs
@@ -47,6 +50,7 @@ list-move-spec =
     enum-known-answer
     enum-told
     slice-aggregate-list-tree
+    slice-aggregate-list-tree-2
     list-tree-requires
     same-length
     returns

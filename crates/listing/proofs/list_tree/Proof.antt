@@ -12,17 +12,11 @@ use Rattle.listing.proofs.list_tree.Tie as tie
 
 partitions-right-requires : tie.Need-partitions-right-requires
 partitions-right-requires c κs =
-    (c .before .before .before .before .pre .0 .valid .big, c .before .before .before .before .pre .0 .few)
+    (c .before .before .before .before .before .pre .0 .valid .big, c .before .before .before .before .before .pre .0 .few)
 
 returns : tie.Need-returns
 returns c =
-    lists-6 (c .before .before .before .before .before .before .args .n) (c .before .before .before .before .before .before .args .t .now) (c .before .before .before .before .before .before .args .ys .now) (moveOf (c .before .before .before .before .before .before .args .m)) (c .before .before .before .before .before .before .args .number) (c .before .before .before .before .before .before .args .out .now) (c .before .before .before .before .before .before .args .place) (c .before .before .before .before .before .before .pre .0) (sym (c .before .partitions-right .ensures) ∙ not-true (c .before .partitions-right .result) (c .if1 .taken))
-
-sides-requires : tie.Need-sides-requires
-sides-requires c κs = search needs
-
-slice-aggregate-fit-of : tie.Need-slice-aggregate-fit-of
-slice-aggregate-fit-of c = search needs
+    lists-6 (c .before .before .before .before .before .before .before .args .n) (c .before .before .before .before .before .before .before .args .t .now) (c .before .before .before .before .before .before .before .args .ys .now) (moveOf (c .before .before .before .before .before .before .before .args .m)) (c .before .before .before .before .before .before .before .args .number) (c .before .before .before .before .before .before .before .args .out .now) (c .before .before .before .before .before .before .before .args .place) (c .before .before .before .before .before .before .before .pre .0) (sym (c .before .partitions-right .ensures) ∙ not-true (c .before .partitions-right .result) (c .if1 .taken))
 
 fit-of-requires : tie.Need-fit-of-requires
 fit-of-requires c κs = search needs
@@ -33,19 +27,16 @@ enum-known-fit c = search needs
 enum-told : tie.Need-enum-told
 enum-told c = search needs
 
-slice-aggregate-list-fit : tie.Need-slice-aggregate-list-fit
-slice-aggregate-list-fit c = search needs
-
 list-fit-requires : tie.Need-list-fit-requires
 list-fit-requires c κs =
-    (record { good = c .before .before .before .before .before .before .before .before .before .before .before .before .before .before .before .before .pre .0; rows = c .before .before .before .before .before .before .before .before .before .before .before .before .before .before .before .before .pre .1; sides = c .before .before .before .before .before .before .before .before .sides .ensures; fits = gives-pass (moveChecks (c .before .before .before .before .before .before .before .before .before .before .before .before .before .before .before .before .args .n) (c .before .before .before .before .before .before .before .before .before .before .before .before .before .before .before .before .args .t .now) (moveOf (c .before .before .before .before .before .before .before .before .before .before .before .before .before .before .before .before .args .m))) tt tt (sym (c .before .before .before .before .before .fit-of .ensures) ∙ ap fittedSays (c .before .before .before .enum-told .given .1)) }, right-of (c .before .before .before .before .before .before .before .before .before .before .before .before .before .before .before .before .args .n) (c .before .before .before .before .before .before .before .before .before .before .before .before .before .before .before .before .args .ys .now) (sym (c .before .before .before .before .before .before .before .before .before .before .before .partitions-right .ensures) ∙ not-false (c .before .before .before .before .before .before .before .before .before .before .before .partitions-right .result) (c .before .before .before .before .before .before .before .before .before .before .if1 .left)))
+    (record { good = c .before .before .before .before .before .before .before .before .before .before .before .before .before .pre .0; rows = c .before .before .before .before .before .before .before .before .before .before .before .before .before .pre .1; sides = c .before .before .before .before .before .before .before .before .before .before .before .before .before .pre .2; fits = gives-pass (moveChecks (c .before .before .before .before .before .before .before .before .before .before .before .before .before .args .n) (c .before .before .before .before .before .before .before .before .before .before .before .before .before .args .t .now) (moveOf (c .before .before .before .before .before .before .before .before .before .before .before .before .before .args .m))) tt tt (sym (c .before .before .before .before .fit-of .ensures) ∙ ap fittedSays (c .before .before .enum-told .given .1)) }, right-of (c .before .before .before .before .before .before .before .before .before .before .before .before .before .args .n) (c .before .before .before .before .before .before .before .before .before .before .before .before .before .args .ys .now) (sym (c .before .before .before .before .before .before .before .partitions-right .ensures) ∙ not-false (c .before .before .before .before .before .before .before .partitions-right .result) (c .before .before .before .before .before .before .if1 .left)))
 
 same-length : tie.Need-same-length
 same-length c = search needs
 
 returns-2 : tie.Need-returns-2
 returns-2 c =
-    lists-unfit (c .before .before .before .before .before .before .before .before .before .before .before .before .before .before .args .n) (c .before .before .before .before .before .before .before .before .before .before .before .before .before .before .args .t .now) (c .before .before .before .before .before .before .before .before .before .before .before .before .before .before .args .ys .now) (moveOf (c .before .before .before .before .before .before .before .before .before .before .before .before .before .before .args .m)) (c .before .before .before .before .before .before .before .before .before .before .before .before .before .before .args .number) (c .before .before .before .before .before .before .before .before .before .before .before .before .before .before .args .out .now) (c .before .before .before .before .before .before .before .before .before .before .before .before .before .before .args .place) (c .before .before .before .before .before .before .before .before .before .before .before .before .before .before .pre .0) (right-of (c .before .before .before .before .before .before .before .before .before .before .before .before .before .before .args .n) (c .before .before .before .before .before .before .before .before .before .before .before .before .before .before .args .ys .now) (sym (c .before .before .before .before .before .before .before .before .before .partitions-right .ensures) ∙ not-false (c .before .before .before .before .before .before .before .before .before .partitions-right .result) (c .before .before .before .before .before .before .before .before .if1 .left))) _ (sym (c .before .before .before .fit-of .ensures) ∙ ap fittedSays (c .before .fit .given .1))
+    lists-unfit (c .before .before .before .before .before .before .before .before .before .before .before .before .args .n) (c .before .before .before .before .before .before .before .before .before .before .before .before .args .t .now) (c .before .before .before .before .before .before .before .before .before .before .before .before .args .ys .now) (moveOf (c .before .before .before .before .before .before .before .before .before .before .before .before .args .m)) (c .before .before .before .before .before .before .before .before .before .before .before .before .args .number) (c .before .before .before .before .before .before .before .before .before .before .before .before .args .out .now) (c .before .before .before .before .before .before .before .before .before .before .before .before .args .place) (c .before .before .before .before .before .before .before .before .before .before .before .before .pre .0) (right-of (c .before .before .before .before .before .before .before .before .before .before .before .before .args .n) (c .before .before .before .before .before .before .before .before .before .before .before .before .args .ys .now) (sym (c .before .before .before .before .before .before .partitions-right .ensures) ∙ not-false (c .before .before .before .before .before .before .partitions-right .result) (c .before .before .before .before .before .if1 .left))) _ (sym (c .before .before .before .fit-of .ensures) ∙ ap fittedSays (c .before .fit .given .1))
 
 same-length-2 : tie.Need-same-length-2
 same-length-2 c = search needs
@@ -63,12 +54,9 @@ list-tree-spec =
     (tie.spec
     partitions-right-requires
     returns
-    sides-requires
-    slice-aggregate-fit-of
     fit-of-requires
     enum-known-fit
     enum-told
-    slice-aggregate-list-fit
     list-fit-requires
     same-length
     returns-2

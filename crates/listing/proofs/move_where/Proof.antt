@@ -1,3 +1,4 @@
+-- `listing::move_where` meets its contract. Assumes nothing.
 use mathlib.Core.Path.{sym, ap, _∙_}
 use mathlib.Core.Bool.{Bool}
 use Rattle.taxa.specs.Sets.{pick}
@@ -6,9 +7,6 @@ use Rattle.fits.specs.Bytes.{moveOf}
 use borrow.Author.Needs.{needs}
 use Rattle.listing.proofs.move_where.Statement.{statement}
 use Rattle.listing.proofs.move_where.Tie as tie
-use Rattle.listing.proofs.move_where.Reads as reads
-use Rattle.listing.proofs.move_where.Lts as lts
-use Rattle.judge.proofs.rewrite_rows.Reads as rewrite-rows-reads
 
 rewrite-rows-requires : tie.Need-rewrite-rows-requires
 rewrite-rows-requires c κs = search needs

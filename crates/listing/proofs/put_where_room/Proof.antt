@@ -1,3 +1,4 @@
+-- `listing::put_where_room` meets its contract. Assumes nothing.
 use native.Mathlib.Omega.{arith}
 use mathlib.Core.Path.{ap, sym, _∙_}
 use Prim.Native.Nat.{ℕ, _+_, _≤_}
@@ -12,12 +13,6 @@ use Rattle.listing.proofs.ListsLaws.{puts-11, puts-done}
 use borrow.Author.Needs.{needs}
 use Rattle.listing.proofs.put_where_room.Statement.{statement}
 use Rattle.listing.proofs.put_where_room.Tie as tie
-use Rattle.listing.proofs.put_where_room.Reads as reads
-use Rattle.listing.proofs.put_where_room.Lts as lts
-use Rattle.listing.proofs.has_room.Reads as has-room-reads
-use Rattle.listing.proofs.lines_width.Reads as lines-width-reads
-use Rattle.listing.proofs.move_where.Reads as move-where-reads
-use Rattle.listing.proofs.put_lines.Reads as put-lines-reads
 
 lines-width-requires : tie.Need-lines-width-requires
 lines-width-requires c κs = search needs

@@ -19,8 +19,8 @@ loop-holds c = search needs
 lo-requires : tie.Need-lo-requires Inv-loop μ-loop
 lo-requires c κs = search needs
 
-print-decimal-requires : tie.Need-print-decimal-requires Inv-loop μ-loop
-print-decimal-requires c κs = search needs
+number-requires : tie.Need-number-requires Inv-loop μ-loop
+number-requires c κs = search needs
 
 slice-aggregate-put : tie.Need-slice-aggregate-put Inv-loop μ-loop
 slice-aggregate-put c = search needs
@@ -54,7 +54,7 @@ rows-spec =
     μ-loop
     loop-holds
     lo-requires
-    print-decimal-requires
+    number-requires
     slice-aggregate-put
     put-requires
     hi-requires

@@ -1,5 +1,5 @@
 -- `splits::compare` meets its contract. Assumes nothing.
-use Rattle.near.proofs.LookLaws.{found-tree-is, found-refused}
+use Rattle.sides.proofs.LookLaws.{found-tree-is, found-refused}
 use Rattle.splits.proofs.SaidLaws.{compares-first}
 use borrow.Author.Needs.{needs}
 use Rattle.splits.proofs.compare.Statement.{statement}
@@ -14,18 +14,16 @@ enum-known-answer c = search needs
 enum-told : tie.Need-enum-told
 enum-told c = search needs
 
-slice-aggregate-compare-second : tie.Need-slice-aggregate-compare-second
-slice-aggregate-compare-second c = search needs
-
 compare-second-requires : tie.Need-compare-second-requires
 compare-second-requires c κs =
     let s = c .before .before .before .before .before .before .before in
-    found-tree-is (s .args .n) (s .args .t .now) _ _ (c .before .before .before .before .look .ensures) (c .before .enum-told .given .1)
+    let w = found-tree-is (s .args .n) (s .args .t .now) _ _ _ (c .before .before .before .before .look .ensures) (c .before .enum-told .given .1) in
+    (w .0, w .2)
 
 returns : tie.Need-returns
 returns c =
     let s = c .before .before .before .before .before .before .before in
-    compares-first (s .args .n) (s .args .t .now) (s .args .u .now) (s .args .y) _ (found-refused (s .args .n) (s .args .t .now) _ _ _ (c .before .before .before .before .look .ensures) (c .before .answer .given .1))
+    compares-first (s .args .n) (s .args .t .now) (s .args .u .now) (s .args .y) _ (found-refused (s .args .n) (s .args .t .now) _ _ _ _ (c .before .before .before .before .look .ensures) (c .before .answer .given .1))
 
 returns-2 : tie.Need-returns-2
 returns-2 c = search needs
@@ -33,11 +31,4 @@ returns-2 c = search needs
 pub compare-spec : {M : Type 1} → statement M
 compare-spec =
     tie.close
-    (tie.spec
-    look-requires
-    enum-known-answer
-    enum-told
-    slice-aggregate-compare-second
-    compare-second-requires
-    returns
-    returns-2)
+    (tie.spec look-requires enum-known-answer enum-told compare-second-requires returns returns-2)

@@ -18,7 +18,7 @@ slice-aggregate-tree-splits c = search needs
 
 tree-splits-requires : tie.Need-tree-splits-requires
 tree-splits-requires c κs =
-    let s = c .before .before .before .before .before in
+    let s = c .before .before .before in
     (s .pre .0, s .pre .1, s .pre .4, omega (arith, splits-few (s .args .n) (s .args .t .now) (s .args .y), s .pre .0 .few, length-replicate {A = ℕ} (rows most) 0))
 
 slice-aggregate-tree-splits-2 : tie.Need-slice-aggregate-tree-splits-2
@@ -26,12 +26,12 @@ slice-aggregate-tree-splits-2 c = search needs
 
 tree-splits-requires-2 : tie.Need-tree-splits-requires-2
 tree-splits-requires-2 c κs =
-    let s = c .before .before .before .before .before .before .before .before in
+    let s = c .before .before .before .before .before .before in
     (s .pre .2, s .pre .3, s .pre .4, omega (arith, splits-few (s .args .n) (s .args .u .now) (s .args .y), s .pre .0 .few, length-replicate {A = ℕ} (rows most) 0))
 
 array-share-prefix-first : tie.Need-array-share-prefix-first
 array-share-prefix-first c =
-    let s = c .before .before .before .before .before .before .before .before .before .before in
+    let s = c .before .before .before .before .before .before .before .before in
     omega (arith, c .before .before .before .before .tree-splits .ensures .count, splits-few (s .args .n) (s .args .t .now) (s .args .y), s .pre .0 .few)
 
 slice-aggregate-compare-lists : tie.Need-slice-aggregate-compare-lists
@@ -40,7 +40,7 @@ slice-aggregate-compare-lists c =
 
 array-share-prefix-second : tie.Need-array-share-prefix-second
 array-share-prefix-second c =
-    let s = c .before .before .before .before .before .before .before .before .before .before .before in
+    let s = c .before .before .before .before .before .before .before .before .before in
     omega (arith, c .before .before .tree-splits2 .ensures .count, splits-few (s .args .n) (s .args .u .now) (s .args .y), s .pre .0 .few)
 
 slice-aggregate-compare-lists-2 : tie.Need-slice-aggregate-compare-lists-2
@@ -49,7 +49,7 @@ slice-aggregate-compare-lists-2 c =
 
 compare-lists-requires : tie.Need-compare-lists-requires
 compare-lists-requires c κs =
-    let s = c .before .before .before .before .before .before .before .before .before .before .before .before in
+    let s = c .before .before .before .before .before .before .before .before .before .before in
     let p = listed-prefix _ _ _ _ (c .before .before .before .before .before .before .tree-splits .ensures) in
     let q = listed-prefix _ _ _ _ (c .before .before .before .tree-splits2 .ensures) in (
       subst Asc (sym p) (splits-asc (s .args .n) (s .args .t .now) (s .args .y)),
@@ -60,7 +60,7 @@ compare-lists-requires c κs =
 
 returns : tie.Need-returns
 returns c =
-    let s = c .before .before .before .before .before .before .before .before .before .before .before .before .before in
+    let s = c .before .before .before .before .before .before .before .before .before .before .before in
     let pair : ℕ × ℕ → Said (ℕ × ℕ) = λ v. gives v in
     c .compare-lists .ensures ∙ ap pair (compared-lists (s .args .n) (s .args .t .now) (s .args .u .now) (s .args .y) _ _ (listed-prefix _ _ _ _ (c .before .before .before .before .before .before .before .tree-splits .ensures)) (listed-prefix _ _ _ _ (c .before .before .before .before .tree-splits2 .ensures)))
 

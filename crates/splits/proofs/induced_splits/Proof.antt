@@ -1,5 +1,5 @@
 -- `splits::induced_splits` meets its contract. Assumes nothing.
-use Rattle.near.proofs.LookLaws.{found-tree-is, found-refused}
+use Rattle.sides.proofs.LookLaws.{found-tree-is, found-refused}
 use Rattle.splits.proofs.SaidLaws.{induces-tree}
 use borrow.Author.Needs.{needs}
 use Rattle.splits.proofs.induced_splits.Statement.{statement}
@@ -14,18 +14,16 @@ enum-known-answer c = search needs
 enum-told : tie.Need-enum-told
 enum-told c = search needs
 
-slice-aggregate-induced-tree : tie.Need-slice-aggregate-induced-tree
-slice-aggregate-induced-tree c = search needs
-
 induced-tree-requires : tie.Need-induced-tree-requires
 induced-tree-requires c κs =
     let s = c .before .before .before .before .before .before .before .before in
-    found-tree-is (s .args .n) (s .args .t .now) _ _ (c .before .before .before .before .before .look .ensures) (c .before .before .enum-told .given .1)
+    let w = found-tree-is (s .args .n) (s .args .t .now) _ _ _ (c .before .before .before .before .before .look .ensures) (c .before .before .enum-told .given .1) in
+    (w .0, w .2)
 
 returns : tie.Need-returns
 returns c =
     let s = c .before .before .before .before .before .before .before in
-    induces-tree (s .args .n) (s .args .t .now) (s .args .y) (s .args .out .now) _ (found-refused (s .args .n) (s .args .t .now) _ _ _ (c .before .before .before .before .look .ensures) (c .before .answer .given .1))
+    induces-tree (s .args .n) (s .args .t .now) (s .args .y) (s .args .out .now) _ (found-refused (s .args .n) (s .args .t .now) _ _ _ _ (c .before .before .before .before .look .ensures) (c .before .answer .given .1))
 
 same-length : tie.Need-same-length
 same-length c = search needs
@@ -41,7 +39,6 @@ induced-splits-spec =
     look-requires
     enum-known-answer
     enum-told
-    slice-aggregate-induced-tree
     induced-tree-requires
     returns
     same-length

@@ -1,0 +1,28 @@
+-- `writer::end` meets its contract. Assumes nothing.
+use native.Mathlib.Omega.{arith}
+use Rattle.text.proofs.Widths.{end-bytes, decimal-few}
+use borrow.Author.Needs.{needs}
+use Rattle.writer.proofs.end.Statement.{statement}
+use Rattle.writer.proofs.end.Tie as tie
+
+slice-aggregate-end-line : tie.Need-slice-aggregate-end-line
+slice-aggregate-end-line c = search needs
+
+end-line-requires : tie.Need-end-line-requires
+end-line-requires c κs =
+    omega (arith, end-bytes (c .before .args .moves), decimal-few (c .before .args .moves) (c .before .fits .moves .fits))
+
+slice-aggregate-put : tie.Need-slice-aggregate-put
+slice-aggregate-put c = search needs
+
+put-requires : tie.Need-put-requires
+put-requires c κs =
+    omega (arith, end-bytes (c .before .before .before .before .args .moves), decimal-few (c .before .before .before .before .args .moves) (c .before .before .before .before .fits .moves .fits), c .before .before .end-line .ensures .0)
+
+returns : tie.Need-returns
+returns c = search needs
+
+pub end-spec : {M : Type 1} → statement M
+end-spec =
+    tie.close
+    (tie.spec slice-aggregate-end-line end-line-requires slice-aggregate-put put-requires returns)

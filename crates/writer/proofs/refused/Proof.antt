@@ -1,0 +1,41 @@
+-- `writer::refused` meets its contract. Assumes nothing.
+use native.Mathlib.Omega.{arith}
+use Rattle.text.proofs.Widths.{refused-bytes, decimal-few}
+use borrow.Author.Needs.{needs}
+use Rattle.writer.proofs.refused.Statement.{statement}
+use Rattle.writer.proofs.refused.Tie as tie
+
+number-requires : tie.Need-number-requires
+number-requires c κs = search needs
+
+cast-refused-line : tie.Need-cast-refused-line
+cast-refused-line c = search needs
+
+slice-aggregate-refused-line : tie.Need-slice-aggregate-refused-line
+slice-aggregate-refused-line c = search needs
+
+refused-line-requires : tie.Need-refused-line-requires
+refused-line-requires c κs =
+    omega (arith, refused-bytes (c .before .number .result) (c .before .before .args .place), decimal-few (c .before .number .result) (search (needs, arith)), decimal-few (c .before .before .args .place) (c .before .before .fits .place .fits))
+
+slice-aggregate-put : tie.Need-slice-aggregate-put
+slice-aggregate-put c = search needs
+
+put-requires : tie.Need-put-requires
+put-requires c κs =
+    omega (arith, refused-bytes (c .before .before .before .before .number .result) (c .before .before .before .before .before .args .place), decimal-few (c .before .before .before .before .number .result) (search (needs, arith)), decimal-few (c .before .before .before .before .before .args .place) (c .before .before .before .before .before .fits .place .fits), c .before .before .refused-line .ensures .0)
+
+returns : tie.Need-returns
+returns c = search needs
+
+pub refused-spec : {M : Type 1} → statement M
+refused-spec =
+    tie.close
+    (tie.spec
+    number-requires
+    cast-refused-line
+    slice-aggregate-refused-line
+    refused-line-requires
+    slice-aggregate-put
+    put-requires
+    returns)
