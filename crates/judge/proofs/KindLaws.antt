@@ -1,12 +1,13 @@
 -- What a move that fits tells of its rows, kind by kind, and the groups on its two sides. Assumes nothing.
 use mathlib.Core.Path.{_≡_, sym, ap, _∙_}
-use mathlib.Core.Bool.{true}
+use mathlib.Core.Bool.{true, false≢true}
 use mathlib.Core.List.{List, _++_}
 use Prim.Native.Nat.{ℕ, _+_, _*_, _≤_, _<_}
 use native.Mathlib.Omega.{arith}
+use lib.Dec.{eqb}
 use lib.ListN.{length, take, drop, length-append}
 use lib.Seq.{take-append-seam}
-use borrow.Author.Tests.{eq-eqb, ne-eqb, le-ltb, not-false}
+use borrow.Author.Tests.{eqb-true, eq-eqb, ne-eqb, le-ltb, not-false}
 use Rattle.taxa.specs.Sets.{has}
 use Rattle.tree.specs.Tree.{lo, hi, rows, far, part}
 use Rattle.tree.specs.Refusals.{Accepted}
@@ -21,6 +22,8 @@ use Rattle.moves.proofs.Moved.{NniPass, SprPass, TbrPass, Passed, by-nni, by-sp
 use Rattle.rewrite.specs.Asked.{Grafts, Cuts}
 use Rattle.walks.specs.Way.{Listed, room}
 use Rattle.walks.proofs.LeadLaws.{far-at}
+use Rattle.rules.specs.Each.{Few}
+use Rattle.fits.proofs.FitLaws.{nni-outer}
 use Rattle.judge.specs.Promises.{Fit, firstGroups, secondGroups}
 
 -- a list at the start of a lent one
@@ -38,6 +41,11 @@ module _ {m : ℕ} {gs out out′ : List ℕ} {k : ℕ} (l : Listed m gs out k o
     memory = l .memory ∙ ap (λ (x : List ℕ). x ++ drop k out) e;
     len = l .len;
   }
+
+-- an inner node has two groups
+stayed-two : (n : ℕ) (t : List ℕ) (a v : ℕ) → n ≤ v → length (stayed n t a v) ≡ 2
+unfolding stayed
+stayed-two n t a v l = rw (le-ltb v n l)
 
 -- ---- the kind of a move that fits
 module _ {n : ℕ} {t near s : List ℕ} {m : Move} (F : Fit n t near s m) where
@@ -102,6 +110,25 @@ module _ {n : ℕ} {t near s : List ℕ} {m : Move} (F : Fit n t near s m) where
 
     pub second-1 : stayed n t (m .first) (hi t (m .first)) ≡ secondGroups n t m
     second-1 = rw (eq-eqb (m .kind) 1 e)
+
+    inner : lo t (m .first) < n → ⊥
+    inner l = let p = nni-of e in false≢true (nni-outer n t (m .first) (m .second) (m .third) l ∙ p .fit)
+
+    first-two : length (firstGroups n t m) ≡ 2
+    first-two = sym (ap length first-1) ∙ stayed-two n t (m .first) (lo t (m .first)) (omega (arith, inner))
+
+    second-two : length (secondGroups n t m) ≡ 2
+    second-two =
+        sym (ap length second-1) ∙ stayed-two n t (m .first) (hi t (m .first)) (omega (arith, inner, F .good .valid .order (m .first) first-row .0))
+
+  -- the groups listed at the start of two lent lists are few, and of an NNI two on each side
+  pub listed-few : {gs gs′ hs hs′ : List ℕ} {k j : ℕ} → Listed room (firstGroups n t m) gs k gs′ → Listed room (secondGroups n t m) hs j hs′
+      → Few (eqb (m .kind) 1) (take k gs′) (take j hs′)
+  listed-few g h = record {
+    first = omega (arith, ap length (listed-take g), g .count, g .few);
+    second = omega (arith, ap length (listed-take h), h .count, h .few);
+    twos = λ q. (ap length (listed-take g) ∙ first-two (eqb-true (m .kind) 1 q), ap length (listed-take h) ∙ second-two (eqb-true (m .kind) 1 q));
+  }
 
   -- ---- an SPR: p is the end that moves
   module _ (e : m .kind ≡ 2) where

@@ -1,35 +1,38 @@
 -- Whether a list of partitions is right, test by test. Assumes nothing.
-use mathlib.Core.Path.{_≡_, sym, ap, _∙_}
-use mathlib.Core.Bool.{Bool, true, false, _&&_}
+use mathlib.Core.Path.{_≡_, sym}
+use mathlib.Core.Bool.{Bool, false, _&&_, and-true, and-assoc}
 use mathlib.Core.List.{List}
 use Prim.Native.Nat.{ℕ, suc, _+_, _^_, _≤_, _<_}
 use native.Mathlib.Omega.{arith}
 use native.Mathlib.Numerals.{add-one}
+use lib.Bits.{bitOr}
 use lib.Dec.{ltb, leb}
 use lib.ListN.{length, getD, drop}
+use lib.Pow.{pow-pos}
 use lib.Seq.{drop-cons, drop-length}
-use borrow.Author.Tests.{le-leb, lt-leb}
+use borrow.Author.Tests.{lt-ltb, le-leb, lt-leb}
 use Rattle.taxa.specs.Most.{mostPartitions}
 use Rattle.taxa.proofs.Bools.{and-false-r}
+use Rattle.taxa.proofs.Unions.{within-or}
 use Rattle.tree.specs.Refusals.{each}
 
--- the rest of a list, the numbers before it having passed the test
-module _ (f : ℕ → Bool) (ys : List ℕ) (i : ℕ) (l : i < length ys) where
-  here : each f (drop i ys) ≡ (f (getD ys i 0) && each f (drop (suc i) ys))
-  unfolding each
-  here = ap (each f) (drop-cons ys i 0 l)
-
-  pub each-next : f (getD ys i 0) ≡ true → each f (drop i ys) ≡ each f (drop (i + 1) ys)
-  each-next h = rw add-one (here ∙ ap (λ (b : Bool). b && each f (drop (suc i) ys)) h)
-
-  pub each-fails : f (getD ys i 0) ≡ false → each f (drop i ys) ≡ false
-  each-fails h = here ∙ ap (λ (b : Bool). b && each f (drop (suc i) ys)) h
-
-pub each-end : (f : ℕ → Bool) (ys : List ℕ) (i : ℕ) → i ≡ length ys → each f (drop i ys) ≡ true
-unfolding each
-each-end f ys i e = ap (λ (j : ℕ). each f (drop j ys)) e ∙ ap (each f) (drop-length ys)
-
 module _ (n : ℕ) (ys : List ℕ) where
+  -- ---- the union of the numbers before place i, and the rest of the list
+  pub each-none : each (λ y. ltb y (2 ^ n)) ys ≡ (ltb 0 (2 ^ n) && each (λ y. ltb y (2 ^ n)) (drop 0 ys))
+  each-none = rw (lt-ltb 0 (2 ^ n) (pow-pos n))
+
+  pub each-next : (all i : ℕ) → i < length ys
+      → (ltb all (2 ^ n) && each (λ y. ltb y (2 ^ n)) (drop i ys)) ≡ (ltb (bitOr all (getD ys i 0)) (2 ^ n) && each (λ y. ltb y (2 ^ n)) (drop (i + 1) ys))
+  unfolding each
+  each-next all i l =
+      rw (drop-cons ys i 0 l, add-one, within-or)
+      (sym (and-assoc (ltb all (2 ^ n)) (ltb (getD ys i 0) (2 ^ n)) (each (λ y. ltb y (2 ^ n)) (drop (suc i) ys))))
+
+  pub each-end : (all i : ℕ) → i ≡ length ys → (ltb all (2 ^ n) && each (λ y. ltb y (2 ^ n)) (drop i ys)) ≡ ltb all (2 ^ n)
+  unfolding each
+  each-end all i e = rw (e, drop-length) (and-true (ltb all (2 ^ n)))
+
+  -- ---- the tests in order
   pub right-none : length ys ≡ 0 → false ≡ (leb 1 (length ys) && leb (length ys) mostPartitions && each (λ y. ltb y (2 ^ n)) ys)
   right-none h = rw (lt-leb 1 (length ys) (omega (arith, h)))
 

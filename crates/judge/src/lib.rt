@@ -165,7 +165,7 @@ pub fn judge_groups(
     rules::distance_each(m.kind == 1, &gs[..k], &hs[..j], ys, out)
 }
 
-// Whether a list of partitions has one at least and not too many, and none names a taxon n or above.
+// Whether a list of partitions has one at least and not too many, and none names a taxon n or above: their union is tested once.
 pub fn partitions_right(n: usize, ys: &[u64]) -> bool
     requires { ⌜ (4 ≤ n) × (n ≤ most) ⌝ }
     ensures { λ b. ⌜ b ≡ (leb 1 (length (now (ys .entry))) && leb (length (now (ys .entry))) mostPartitions && each (λ y. ltb y (2 ^ n)) (now (ys .entry))) ⌝ }
@@ -176,14 +176,13 @@ pub fn partitions_right(n: usize, ys: &[u64]) -> bool
     if PARTITIONS < ys.len() {
         return false;
     }
+    let mut all: u64 = 0;
     let mut i: usize = 0;
     while i < ys.len() {
-        if !taxa::within(ys[i], n) {
-            return false;
-        }
+        all |= ys[i];
         i += 1;
     }
-    true
+    taxa::within(all, n)
 }
 
 // The judgement of a tree's move that fits, where the partitions are right: refusal 11.

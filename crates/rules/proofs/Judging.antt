@@ -1,28 +1,54 @@
 -- Groups are counted one by one, a number for each partition on a list is written in order, and the numbers are the distances of two trees. Assumes nothing.
 use mathlib.Core.Path.{_≡_, refl, ap, _∙_}
-use mathlib.Core.Bool.{true}
+use mathlib.Core.Bool.{true, _&&_}
 use mathlib.Core.List.{List, [], _∷_, _++_, append-assoc}
-use Prim.Native.Nat.{ℕ, suc, _+_, _^_, _<_, _≤_}
+use Prim.Native.Nat.{ℕ, suc, _+_, _-_, _^_, _<_, _≤_}
 use native.Mathlib.Omega.{arith}
 use native.Mathlib.Numerals.{add-one}
 use lib.Bits.{bitAnd}
 use lib.Dec.{eqb, ltb}
 use lib.ListN.{length, take, drop, getD, set, length-append, length-drop}
-use lib.Seq.{take-suc, drop-cons, set-at, length-take-le, take-length}
-use borrow.Author.Tests.{ltb-true}
+use lib.Seq.{take-suc, drop-cons, drop-length, set-at, length-take-le, take-length}
+use borrow.Author.Tests.{ltb-true, eqb-true, eq-eqb}
 use Rattle.taxa.specs.Sets.{tally, some}
 use Rattle.taxa.proofs.Sizes.{tally-one}
-use Rattle.taxa.proofs.Bools.{and-left, and-right}
+use Rattle.taxa.proofs.Bools.{and-left, and-right, and-both, bool-eq}
 use Rattle.tree.specs.Splits.{dist, distances, unchanged}
 use Rattle.tree.specs.Refusals.{each}
 use Rattle.moves.specs.Groups.{met}
-use Rattle.moves.proofs.GroupLists.{met-append}
+use Rattle.moves.proofs.GroupLists.{met-le}
 use Rattle.rules.specs.Each.{mapped, zeros, Judges}
 
--- ---- the group at place i, past those before it
-pub met-next : (y : ℕ) (gs : List ℕ) (i : ℕ) → i < length gs → met y (take (i + 1) gs) ≡ met y (take i gs) + tally (some (bitAnd (getD gs i 0) y))
+-- ---- the groups from place i on: the one there, and the rest; none at the end
+pub met-rest : (y : ℕ) (gs : List ℕ) (i : ℕ) → i < length gs → met y (drop i gs) ≡ tally (some (bitAnd (getD gs i 0) y)) + met y (drop (i + 1) gs)
 unfolding met
-met-next y gs i l = rw (add-one, take-suc gs i 0 l, met-append) (omega arith)
+met-rest y gs i l = rw (drop-cons gs i 0 l, add-one)
+
+pub met-end : (y : ℕ) (gs : List ℕ) (i : ℕ) → i ≤ length gs → length gs ≤ i → met y (drop i gs) ≡ 0
+unfolding met
+met-end y gs i l m = let e : i ≡ length gs = omega arith in rw (e, drop-length)
+
+-- no more than the groups there
+pub met-few : (y : ℕ) (gs : List ℕ) (i : ℕ) → met y (drop i gs) ≤ length gs - i
+met-few y gs i = omega (arith, met-le y (drop i gs), length-drop i gs)
+
+-- of two and two groups all four are met exactly where both pairs are
+pub four-met : (y : ℕ) (gs hs : List ℕ) → (length gs ≡ 2) × (length hs ≡ 2)
+    → eqb (met y gs + met y hs) 4 ≡ (eqb (met y gs) (length gs) && eqb (met y hs) (length hs))
+four-met y gs hs two =
+    bool-eq (eqb (k + j) 4) (eqb k (length gs) && eqb j (length hs)) (λ h. apart (eqb-true (k + j) 4 h))
+    (λ h. eq-eqb (k + j) 4 (omega (arith, eqb-true k (length gs) (and-left (eqb k (length gs)) (eqb j (length hs)) h), eqb-true j (length hs) (and-right (eqb k (length gs)) (eqb j (length hs)) h), two .0, two .1)))
+  where
+    k : ℕ
+    k = met y gs
+
+    j : ℕ
+    j = met y hs
+
+    apart : k + j ≡ 4 → (eqb k (length gs) && eqb j (length hs)) ≡ true
+    apart e =
+        and-both (eqb k (length gs)) (eqb j (length hs)) (eq-eqb k (length gs) (omega (arith, e, met-le y gs, met-le y hs, two .0, two .1)))
+        (eq-eqb j (length hs) (omega (arith, e, met-le y gs, met-le y hs, two .0, two .1)))
 
 -- ---- one number more
 length-mapped : (f : ℕ → ℕ) (ys : List ℕ) → length (mapped f ys) ≡ length ys

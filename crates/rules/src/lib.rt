@@ -1,12 +1,13 @@
 // The distances of a move over partitions, from how many of the groups about it each partition meets.
 ghost use Prim.Native.Nat.{_+_, _≤_, _-_};
 ghost use mathlib.Core.Path.{_≡_};
+ghost use mathlib.Core.Bool.{not};
 ghost use lib.Dec.{eqb};
 ghost use lib.Bits.{bitAnd};
 ghost use lib.ListN.{length};
 ghost use Rattle.taxa.specs.Sets.{pick, tally, some};
 ghost use Rattle.moves.specs.Groups as groups;
-ghost use Rattle.rules.specs.Each.{Judges, byGroups};
+ghost use Rattle.rules.specs.Each.{Few, Judges, byGroups};
 
 // 1 where the group g meets y, else 0.
 fn meets(g: u64, y: u64) -> usize
@@ -28,6 +29,34 @@ fn count_met(gs: &[u64], y: u64) -> usize
     r
 }
 
+// Whether a group on gs meets y: the first that does ends the search.
+fn some_met(gs: &[u64], y: u64) -> bool
+    ensures { λ r. ⌜ r ≡ not (eqb (groups.met y (now (gs .entry))) 0) ⌝ }
+{
+    let mut i: usize = 0;
+    while i < gs.len() {
+        if meets(gs[i], y) != 0 {
+            return true;
+        }
+        i += 1;
+    }
+    false
+}
+
+// Whether every group on gs meets y: the first that does not ends the search.
+fn all_met(gs: &[u64], y: u64) -> bool
+    ensures { λ r. ⌜ r ≡ eqb (groups.met y (now (gs .entry))) (length (now (gs .entry))) ⌝ }
+{
+    let mut i: usize = 0;
+    while i < gs.len() {
+        if meets(gs[i], y) == 0 {
+            return false;
+        }
+        i += 1;
+    }
+    true
+}
+
 // k less m, or 0.
 fn minus(k: usize, m: usize) -> usize
     ensures { λ r. ⌜ r ≡ k - m ⌝ }
@@ -38,47 +67,59 @@ fn minus(k: usize, m: usize) -> usize
     k - m
 }
 
-// The distance, from the numbers k and j of groups met on the two sides.
-fn rule(k: usize, j: usize) -> u64
-    requires { ⌜ (k ≤ 1000) × (j ≤ 1000) ⌝ }
-    ensures { λ r. ⌜ r ≡ groups.rule k j ⌝ }
+// How many more than two of the groups on gs meet y: two groups or fewer are not counted.
+fn above_two(gs: &[u64], y: u64) -> usize
+    ensures { λ r. ⌜ r ≡ groups.met y (now (gs .entry)) - 2 ⌝ }
 {
+    if gs.len() <= 2 {
+        return 0;
+    }
+    minus(count_met(gs, y), 2)
+}
+
+// The distance of an NNI over y, gs and hs being the groups at the two ends of its row: 2 where all four are met, else 0.
+fn around(gs: &[u64], hs: &[u64], y: u64) -> u64
+    requires { ⌜ (length (now gs) ≡ 2) × (length (now hs) ≡ 2) ⌝ }
+    ensures { λ r. ⌜ r ≡ pick (eqb (groups.met y (now (gs .entry)) + groups.met y (now (hs .entry))) 4) 2 0 ⌝ }
+{
+    if !all_met(gs, y) {
+        return 0;
+    }
+    if !all_met(hs, y) {
+        return 0;
+    }
+    2
+}
+
+// The distance over y by the rule: hs, of an SPR two groups at most, is tested first, so that gs is counted only where it matters.
+fn rule(gs: &[u64], hs: &[u64], y: u64) -> u64
+    requires { ⌜ (length (now gs) ≤ 1000) × (length (now hs) ≤ 1000) ⌝ }
+    ensures { λ r. ⌜ r ≡ groups.rule (groups.met y (now (gs .entry))) (groups.met y (now (hs .entry))) ⌝ }
+{
+    if !some_met(hs, y) {
+        return 0;
+    }
+    let k = count_met(gs, y);
     if k == 0 {
         return 0;
     }
-    if j == 0 {
-        return 0;
-    }
-    2 * (minus(k, 2) + minus(j, 2)) as u64
-}
-
-// The distance of an NNI, from the numbers k and j of groups met at the two ends of its row: 2 where all four are met, else 0.
-fn around(k: usize, j: usize) -> u64
-    requires { ⌜ (k ≤ 1000) × (j ≤ 1000) ⌝ }
-    ensures { λ r. ⌜ r ≡ pick (eqb (k + j) 4) 2 0 ⌝ }
-{
-    if k + j == 4 {
-        return 2;
-    }
-    0
+    2 * (minus(k, 2) + above_two(hs, y)) as u64
 }
 
 // The distance over y, from the groups gs and hs on the two sides; nni says which rule holds.
 pub fn distance(nni: bool, gs: &[u64], hs: &[u64], y: u64) -> u64
-    requires { ⌜ (length (now gs) ≤ 1000) × (length (now hs) ≤ 1000) ⌝ }
+    requires { ⌜ Few nni (now gs) (now hs) ⌝ }
     ensures { λ r. ⌜ r ≡ byGroups nni (now (gs .entry)) (now (hs .entry)) y ⌝ }
 {
-    let k = count_met(gs, y);
-    let j = count_met(hs, y);
     if nni {
-        return around(k, j);
+        return around(gs, hs, y);
     }
-    rule(k, j)
+    rule(gs, hs, y)
 }
 
 // Writes the distance over each of ys at the start of out; of how many it is 0.
 pub fn distance_each(nni: bool, gs: &[u64], hs: &[u64], ys: &[u64], out: &mut [u64]) -> usize
-    requires { ⌜ (length (now gs) ≤ 1000) × (length (now hs) ≤ 1000) × (length (now ys) ≤ length (now out)) ⌝ }
+    requires { ⌜ (Few nni (now gs) (now hs)) × (length (now ys) ≤ length (now out)) ⌝ }
     ensures { λ r. ⌜ Judges (byGroups nni (now (gs .entry)) (now (hs .entry))) (now (ys .entry)) (now (out .entry)) r (now (out .exit)) ⌝ }
 {
     let mut r: usize = 0;

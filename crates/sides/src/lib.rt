@@ -80,14 +80,13 @@ fn all_marked(n: usize, marks: &[u8; NODES]) -> bool
     ensures { λ b. ⌜ b ≡ every (mark (now (marks .entry))) (nodes n) ⌝ }
 {
     let m = 2 * n - 2;
+    let mut bad: u8 = 0;
     let mut v: usize = 0;
     while v < m {
-        if marks[v] == 0 {
-            return false;
-        }
+        bad |= (marks[v] == 0) as u8;
         v += 1;
     }
-    true
+    bad == 0
 }
 
 // Whether every node can be reached from node 0. Where it can, the side of every row is stored.

@@ -1,21 +1,21 @@
 -- Laws for the counts of rows at each node. Assumes nothing.
 use mathlib.Core.Path.{_≡_, sym, ap, _∙_}
 use mathlib.Core.Logic.{_⊎_, inl, inr}
-use mathlib.Core.Bool.{Bool, true, false}
+use mathlib.Core.Bool.{Bool, true, false, _&&_, _||_}
 use mathlib.Core.List.{List}
-use Prim.Native.Nat.{ℕ, _+_, _*_, _-_, _≤_, _<_}
+use Prim.Native.Nat.{ℕ, _+_, _*_, _-_, _≤_, _<_, zero-le}
 use native.Mathlib.Numerals.{add-one}
 use native.Mathlib.Omega.{arith}
 use lib.Dec.{eqb, ltb, leb}
 use lib.ListN.{length, getD, set, length-set, replicate, length-replicate, getD-replicate}
 use lib.Seq.{getD-set-same, getD-set-other}
-use borrow.Author.Tests.{eqb-true, eqb-false, ltb-true, leb-true, le-ltb, lt-ltb}
+use borrow.Author.Tests.{eqb-true, eqb-false, ltb-true, ltb-false, leb-true, le-ltb, lt-ltb}
 use Rattle.taxa.specs.Most.{most}
 use Rattle.taxa.specs.Sets.{pick, tally}
-use Rattle.taxa.proofs.Bools.{either, and-left, and-right}
+use Rattle.taxa.proofs.Bools.{either, and-left, and-right, and-both, bool-eq, or-left}
 use Rattle.tree.specs.Tree.{lo, hi, rows, nodes, touches, inOrder, rightDegree, degree, wanted, every, count}
-use Rattle.tree.proofs.RowCounts.{every-all, every-same, touch-tally, count-le}
-use Rattle.table.specs.Rowed.{Ordered, Rowed, Counted}
+use Rattle.tree.proofs.RowCounts.{every-all, all-every, every-same, touch-tally, count-le}
+use Rattle.table.specs.Rowed.{Ordered, Rowed, Counted, hasFrom}
 
 -- one more at place a
 bump : (d : List ℕ) (a v x : ℕ) → a < length d → x ≡ getD d a 0 + 1 → getD (set d a x) v 0 ≡ getD d v 0 + tally (eqb a v)
@@ -81,3 +81,32 @@ module _ (n : ℕ) (t : List ℕ) where
     leaf = λ v a. eqb-true (degree n t v) (wanted n v) (every-all (rightDegree n t) (nodes n) e v (omega (arith, o .big))) ∙ ap (λ (x : Bool). pick x 1 3) (lt-ltb v n a);
     inner = λ v a b. eqb-true (degree n t v) (wanted n v) (every-all (rightDegree n t) (nodes n) e v b) ∙ ap (λ (x : Bool). pick x 1 3) (le-ltb v n a);
   }
+
+-- ---- the test of all counts, in two stretches: the taxa, and the inner nodes
+module _ (n : ℕ) (d : List ℕ) where
+  abbrev right : ℕ → Bool
+  right v = eqb (getD d v 0) (wanted n v)
+
+  from-low : (v : ℕ) → v < n → right v ≡ hasFrom d 0 1 v
+  from-low v l = ap (λ (p : Bool). eqb (getD d v 0) (pick p 1 3)) (lt-ltb v n l) ∙ ap (λ (p : Bool). p || eqb (getD d v 0) 1) (sym (le-ltb v 0 zero-le))
+
+  from-high : (v : ℕ) → n ≤ v → right v ≡ hasFrom d n 3 v
+  from-high v l = ap (λ (p : Bool). eqb (getD d v 0) (pick p 1 3)) (le-ltb v n l) ∙ ap (λ (p : Bool). p || eqb (getD d v 0) 3) (sym (le-ltb v n l))
+
+  -- each way node by node, by whether the node is a taxon
+  pub two-stretches : (p q : Bool) → p ≡ every (hasFrom d 0 1) n → q ≡ every (hasFrom d n 3) (nodes n) → n ≤ nodes n → every right (nodes n) ≡ (p && q)
+  two-stretches p q e f h =
+      bool-eq (every right (nodes n)) (p && q)
+      (λ w. and-both p q
+      (e ∙ all-every (hasFrom d 0 1) n (λ v l. sym (from-low v l) ∙ every-all right (nodes n) w v (omega arith)))
+      (f ∙ all-every (hasFrom d n 3) (nodes n) (λ v l. above v (every-all right (nodes n) w v l) (either (ltb v n)))))
+      (λ w. all-every right (nodes n) (λ v l. both v
+      (every-all (hasFrom d 0 1) n (sym e ∙ and-left p q w) v) (every-all (hasFrom d n 3) (nodes n) (sym f ∙ and-right p q w) v l) (either (ltb v n))))
+    where
+      above : (v : ℕ) → right v ≡ true → (ltb v n ≡ true) ⊎ (ltb v n ≡ false) → hasFrom d n 3 v ≡ true
+      above v w (inl l) = or-left (ltb v n) (eqb (getD d v 0) 3) l
+      above v w (inr l) = sym (from-high v (ltb-false v n l)) ∙ w
+
+      both : (v : ℕ) → (v < n → hasFrom d 0 1 v ≡ true) → hasFrom d n 3 v ≡ true → (ltb v n ≡ true) ⊎ (ltb v n ≡ false) → right v ≡ true
+      both v a b (inl l) = from-low v (ltb-true v n l) ∙ a (ltb-true v n l)
+      both v a b (inr l) = from-high v (ltb-false v n l) ∙ b

@@ -1,7 +1,9 @@
 -- What is known of a table when some of the checks have passed, and what the counts of rows hold.
 use Prim.Native.Nat.{ℕ, _*_, _≤_, _<_}
 use mathlib.Core.Path.{_≡_}
+use mathlib.Core.Bool.{Bool, _||_}
 use mathlib.Core.List.{List}
+use lib.Dec.{eqb, ltb}
 use lib.ListN.{length, getD}
 use Rattle.taxa.specs.Most.{most}
 use Rattle.tree.specs.Tree.{lo, hi, rows, nodes, touches, count, degree}
@@ -23,3 +25,7 @@ pub record Rowed (n : ℕ) (t : List ℕ) : Type 0 where
 pub record Counted (n : ℕ) (t d : List ℕ) (k : ℕ) : Type 0 where
   pub room : length d ≡ nodes most
   pub at : (v : ℕ) → v < nodes n → getD d v 0 ≡ count (λ r. touches t r v) k
+
+-- Node v comes before node a, or d holds k for it.
+abbrev pub hasFrom : List ℕ → ℕ → ℕ → ℕ → Bool
+hasFrom d a k v = ltb v a || eqb (getD d v 0) k

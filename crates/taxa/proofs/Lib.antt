@@ -1,4 +1,5 @@
 pub mod Bools
 pub mod Sets
 pub mod Sizes
+pub mod Unions
 pub mod Words

@@ -1,5 +1,5 @@
 // Sets of taxa as 64-bit numbers: bit i stands for taxon i.
-ghost use Prim.Native.Nat.{ℕ, _<_, _≤_, _^_};
+ghost use Prim.Native.Nat.{_<_, _≤_, _^_};
 ghost use mathlib.Core.Path.{_≡_};
 ghost use lib.Dec.{ltb};
 ghost use Rattle.taxa.specs.Most.{most};

@@ -2,7 +2,7 @@
 use mathlib.Core.Path.{_≡_, refl, ap, sym, _∙_}
 use mathlib.Core.Bool.{Bool, true, false}
 use mathlib.Core.List.{[], _∷_, _++_}
-use mathlib.Core.Logic.{⊎-elim}
+use mathlib.Core.Logic.{_⊎_, inl, inr, ⊎-elim}
 use Prim.Native.Nat.{ℕ, zero, suc, _+_, _*_, _-_, _/_, _%_, _^_, _≤_, _<_}
 use native.Mathlib.Nat.{one-le-pow, mul-le-mul}
 use native.Mathlib.Numerals.{add-one}
@@ -44,16 +44,33 @@ fewest-width (suc f) n (suc (suc r)) h w =
     let next : Fewest 10 1 (n / 10) (suc r) = (omega arith, omega (arith, less, pow-step 10 (suc r)), λ _. let e : suc r - 1 ≡ r = omega arith in rw e (omega (arith, big, pow-step 10 r))) in
     ap suc (fewest-width f (n / 10) (suc r) (omega arith) next) ∙ sym (width-more f n ten)
 
+-- ---- a digit at a time
+width-fuel : (f g n : ℕ) → n ≤ f → n ≤ g → widthTo f n ≡ widthTo g n
+width-fuel zero g n h k = width-one zero n (omega arith) ∙ sym (width-one g n (omega arith))
+width-fuel (suc f) zero n h k = width-one (suc f) n (omega arith) ∙ sym (width-one zero n (omega arith))
+width-fuel (suc f) (suc g) n h k = go (either (ltb n 10)) (width-fuel f g (n / 10) (omega arith) (omega arith))
+  where
+    go : (ltb n 10 ≡ true) ⊎ (ltb n 10 ≡ false) → widthTo f (n / 10) ≡ widthTo g (n / 10) → widthTo (suc f) n ≡ widthTo (suc g) n
+    go (inl w) e = width-one (suc f) n (ltb-true n 10 w) ∙ sym (width-one (suc g) n (ltb-true n 10 w))
+    go (inr w) e = width-more f n (ltb-false n 10 w) ∙ ap suc e ∙ sym (width-more g n (ltb-false n 10 w))
+
 pub decimal-length : (n : ℕ) → length (decimal n) ≡ widthTo n n
 unfolding decimal
 decimal-length n = digits-length (widthTo n n) n
 
+pub decimal-one : (n : ℕ) → n < 10 → 1 ≡ length (decimal n)
+decimal-one n l = sym (decimal-length n ∙ width-one n n l)
+
+pub decimal-more : (n : ℕ) → 10 ≤ n → length (decimal (n / 10)) + 1 ≡ length (decimal n)
+decimal-more zero g = absurd (omega arith)
+decimal-more (suc f) g =
+    let e : widthTo f (suc f / 10) ≡ widthTo (suc f / 10) (suc f / 10) = width-fuel f (suc f / 10) (suc f / 10) (omega arith) (omega arith) in
+    let d = decimal-length (suc f / 10) in
+    sym (decimal-length (suc f) ∙ width-more f (suc f) g ∙ omega (arith, e, d))
+
 pub fewest-decimal : (n r : ℕ) → Fewest 10 1 n r → digits 10 r n ≡ decimal n
 unfolding decimal
 fewest-decimal n r w = ap (λ (k : ℕ). digits 10 k n) (fewest-width n n r (omega arith) w)
-
-pub fewest-length : (n r : ℕ) → Fewest 10 1 n r → r ≡ length (decimal n)
-fewest-length n r w = fewest-width n n r (omega arith) w ∙ sym (decimal-length n)
 
 -- ---- few bytes
 width-few : (f n k : ℕ) → n < 10 ^ suc k → widthTo f n ≤ suc k

@@ -8,8 +8,10 @@ ghost use Rattle.text.specs.Lines.{decimal, bin, className, verdictLine,
 pub fn width(n: u64) -> usize
     ensures { λ r. ⌜ r ≡ length (decimal n) ⌝ }
 {
-    let mut digits = [0u8; 20];
-    io::decimal(n, &mut digits)
+    if n < 10 {
+        return 1;
+    }
+    width(n / 10) + 1
 }
 
 // Writes n in decimal; how many bytes.

@@ -11,7 +11,6 @@ use lib.Dec.{eqb}
 use lib.Arith.{lt-of-le-ne}
 use borrow.Author.Tests.{eqb-true, eqb-false, ne-eqb, not-true}
 use Rattle.taxa.specs.Sets.{pick, tally}
-use native.Mathlib.Numerals.{add-one}
 use Rattle.taxa.proofs.Bools.{either, and-left, and-right, and-both}
 use Rattle.taxa.proofs.Sizes.{tally-le, tally-one}
 use Rattle.tree.specs.Tree.{lo, hi, rows, nodes, touches, others, every, count, Valid}
@@ -30,13 +29,6 @@ pub all-every : (f : ℕ → Bool) (k : ℕ) → ((r : ℕ) → r < k → f r �
 unfolding every
 all-every f zero h = refl
 all-every f (suc k) h = and-both (every f k) (f k) (all-every f k (λ r l. h r (omega arith))) (h k (le-refl (suc k)))
-
-pub not-every : (f : ℕ → Bool) (k r : ℕ) → r < k → f r ≡ false → every f k ≡ false
-not-every f k r l h = go (either (every f k))
-  where
-    go : (every f k ≡ true) ⊎ (every f k ≡ false) → every f k ≡ false
-    go (inl p) = absurd (true≢false (sym (every-all f k p r l) ∙ h))
-    go (inr p) = p
 
 -- ---- counting
 abbrev pub but : (ℕ → Bool) → ℕ → ℕ → Bool
@@ -219,11 +211,6 @@ pub every-same : (f g : ℕ → Bool) (k : ℕ) → ((r : ℕ) → r < k → f r
 unfolding every
 every-same f g zero h = refl
 every-same f g (suc k) h = ap₂ _&&_ (every-same f g k (λ r l. h r (omega arith))) (h k (le-refl (suc k)))
-
--- one number more, as a loop counts
-pub every-more : (f : ℕ → Bool) (i : ℕ) → every f i ≡ true → f i ≡ true → every f (i + 1) ≡ true
-unfolding every
-every-more f i h p = rw (add-one i) (and-both (every f i) (f i) h p)
 
 -- ---- a test that passes less often
 pub count-sub : (P Q : ℕ → Bool) (k : ℕ) → ((r : ℕ) → r < k → P r ≡ true → Q r ≡ true) → count P k ≤ count Q k

@@ -1,8 +1,7 @@
 -- `judge::judge_groups` meets its contract. Assumes nothing.
-use Rattle.judge.proofs.KindLaws.{listed-take, listed-within}
+use Rattle.judge.proofs.KindLaws.{listed-take, listed-within, listed-few}
 use mathlib.Core.Path.{sym, ap, _∙_}
 use Prim.Native.Nat.{ℕ}
-use native.Mathlib.Omega.{arith}
 use lib.ListN.{length, length-replicate}
 use Rattle.fits.specs.Bytes.{moveOf}
 use Rattle.walks.specs.Way.{room}
@@ -37,7 +36,8 @@ slice-aggregate-distance-each-2 c =
 
 distance-each-requires : tie.Need-distance-each-requires
 distance-each-requires c κs =
-    (omega (arith, ap length (listed-take (c .before .before .before .before .before .before .first-groups .ensures)), c .before .before .before .before .before .before .first-groups .ensures .count, c .before .before .before .before .before .before .first-groups .ensures .few), omega (arith, ap length (listed-take (c .before .before .before .before .second-groups .ensures)), c .before .before .before .before .second-groups .ensures .count, c .before .before .before .before .second-groups .ensures .few), c .before .before .before .before .before .before .before .before .before .before .before .before .before .pre .2)
+    let st = c .before .before .before .before .before .before .before .before .before .before .before .before .before in
+    (listed-few {m = moveOf (st .args .m)} (st .pre .0) (c .before .before .before .before .before .before .first-groups .ensures) (c .before .before .before .before .second-groups .ensures), st .pre .2)
 
 same-length : tie.Need-same-length
 same-length c = search needs

@@ -1,9 +1,8 @@
 -- `judge::one_groups` meets its contract. Assumes nothing.
-use Rattle.judge.proofs.KindLaws.{listed-take, listed-within}
+use Rattle.judge.proofs.KindLaws.{listed-take, listed-within, listed-few}
 use mathlib.Core.Path.{sym, ap, ap₂, _∙_}
 use mathlib.Core.List.{List}
 use Prim.Native.Nat.{ℕ}
-use native.Mathlib.Omega.{arith}
 use lib.Dec.{eqb}
 use lib.ListN.{length, length-replicate}
 use Rattle.fits.specs.Bytes.{moveOf}
@@ -39,7 +38,8 @@ slice-aggregate-distance-2 c =
 
 distance-requires : tie.Need-distance-requires
 distance-requires c κs =
-    (omega (arith, ap length (listed-take (c .before .before .before .before .before .first-groups .ensures)), c .before .before .before .before .before .first-groups .ensures .count, c .before .before .before .before .before .first-groups .ensures .few), omega (arith, ap length (listed-take (c .before .before .before .second-groups .ensures)), c .before .before .before .second-groups .ensures .count, c .before .before .before .second-groups .ensures .few))
+    let st = c .before .before .before .before .before .before .before .before .before .before in
+    listed-few {m = moveOf (st .args .m)} (st .pre .0) (c .before .before .before .before .before .first-groups .ensures) (c .before .before .before .second-groups .ensures)
 
 returns : tie.Need-returns
 returns c =

@@ -1,23 +1,22 @@
--- `judge::partitions_right` meets its contract. Assumes nothing.
-use mathlib.Core.Path.{_≡_, refl, sym, _∙_}
-use mathlib.Core.Bool.{true, false}
+-- `judge::partitions_right` meets its contract. The loop's invariant: the list is right where the union of its first i and each of the rest are. Assumes nothing.
+use mathlib.Core.Path.{_≡_, sym, _∙_}
+use mathlib.Core.Bool.{_&&_}
 use Prim.Native.Nat.{_-_, _^_, _≤_}
 use native.Mathlib.Omega.{arith}
-use borrow.Author.Tests.{not-true, not-false}
 use lib.Dec.{ltb}
 use lib.ListN.{length, drop}
 use Rattle.tree.specs.Refusals.{each}
-use Rattle.judge.proofs.PartitionLaws.{each-next, each-fails, each-end, right-none, right-many, right-all}
+use Rattle.judge.proofs.PartitionLaws.{each-none, each-next, each-end, right-none, right-many, right-all}
 use borrow.Author.Needs.{needs}
 use Rattle.judge.proofs.partitions_right.Statement.{statement}
 use Rattle.judge.proofs.partitions_right.Tie as tie
 
 abbrev Inv-loop : tie.InvT-loop
-Inv-loop n ys i₀ i =
-    (i ≤ length ys) × (each (λ y. ltb y (2 ^ n)) ys ≡ each (λ y. ltb y (2 ^ n)) (drop i ys))
+Inv-loop n ys all₀ i₀ all i =
+    (i ≤ length ys) × (each (λ y. ltb y (2 ^ n)) ys ≡ (ltb all (2 ^ n) && each (λ y. ltb y (2 ^ n)) (drop i ys)))
 
 abbrev μ-loop : tie.MeasureT-loop
-μ-loop n ys i₀ i =
+μ-loop n ys all₀ i₀ all i =
     length ys - i
 
 returns : tie.Need-returns Inv-loop μ-loop
@@ -30,21 +29,13 @@ returns-2 c =
 
 loop-holds : tie.Need-loop-holds Inv-loop μ-loop
 loop-holds c =
-    (omega arith, refl)
+    (omega arith, each-none (c .before .before .before .args .n) (c .before .before .before .args .ys .now))
 
-mul-within : tie.Need-mul-within Inv-loop μ-loop
-mul-within c = search needs
+mul-all : tie.Need-mul-all Inv-loop μ-loop
+mul-all c = search needs
 
-shared-slice-read-within : tie.Need-shared-slice-read-within Inv-loop μ-loop
-shared-slice-read-within c = search needs
-
-within-requires : tie.Need-within-requires Inv-loop μ-loop
-within-requires c κs =
-    (omega (arith, c .before .before .before .before .before .before .pre .0), c .before .before .before .before .before .before .pre .1)
-
-returns-3 : tie.Need-returns-3 Inv-loop μ-loop
-returns-3 c =
-    right-all (c .before .before .before .before .before .before .before .before .args .n) (c .before .before .before .before .before .before .before .before .args .ys .now) (c .before .before .before .before .before .before .if1 .left) (omega (arith, c .before .before .before .before .before .if2 .left)) false (c .before .before .before .before .loop .inv .1 ∙ each-fails (λ y. ltb y (2 ^ c .before .before .before .before .before .before .before .before .args .n)) (c .before .before .before .before .before .before .before .before .args .ys .now) (c .before .before .before .before .loop .i) (c .before .before .before .loop-test .taken) (sym (c .before .within .ensures) ∙ not-true (c .before .within .result) (c .if3 .taken)))
+shared-slice-read-all : tie.Need-shared-slice-read-all Inv-loop μ-loop
+shared-slice-read-all c = search needs
 
 add-i : tie.Need-add-i Inv-loop μ-loop
 add-i c = search needs
@@ -54,11 +45,20 @@ loop-less c = search needs
 
 loop-again : tie.Need-loop-again Inv-loop μ-loop
 loop-again c =
-    (omega (arith, c .before .before .before .loop-test .taken), c .before .before .before .before .loop .inv .1 ∙ each-next (λ y. ltb y (2 ^ c .before .before .before .before .before .before .before .before .args .n)) (c .before .before .before .before .before .before .before .before .args .ys .now) (c .before .before .before .before .loop .i) (c .before .before .before .loop-test .taken) (sym (c .before .within .ensures) ∙ not-false (c .before .within .result) (c .if3 .left)))
+    let st = c .before .before .before .before .before .before in
+    let at = c .before .before .loop in
+    (search needs, at .inv .1 ∙ each-next (st .args .n) (st .args .ys .now) (at .all) (at .i) (c .before .loop-test .taken))
 
-returns-4 : tie.Need-returns-4 Inv-loop μ-loop
-returns-4 c =
-    right-all (c .before .before .before .before .before .args .n) (c .before .before .before .before .before .args .ys .now) (c .before .before .before .if1 .left) (omega (arith, c .before .before .if2 .left)) true (c .before .loop .inv .1 ∙ each-end (λ y. ltb y (2 ^ c .before .before .before .before .before .args .n)) (c .before .before .before .before .before .args .ys .now) (c .before .loop .i) (omega (arith, c .before .loop .inv .0, c .loop-test .left)))
+within-requires : tie.Need-within-requires Inv-loop μ-loop
+within-requires c κs =
+    (omega (arith, c .before .before .before .before .before .pre .0), c .before .before .before .before .before .pre .1)
+
+returns-3 : tie.Need-returns-3 Inv-loop μ-loop
+returns-3 c =
+    let st = c .before .before .before .before .before .before in
+    let at = c .before .before .loop in
+    right-all (st .args .n) (st .args .ys .now) (c .before .before .before .before .if1 .left) (omega (arith, c .before .before .before .if2 .left)) (c .within .result)
+    (at .inv .1 ∙ each-end (st .args .n) (st .args .ys .now) (at .all) (at .i) (omega (arith, at .inv .0, c .before .loop-test .left)) ∙ sym (c .within .ensures))
 
 pub partitions-right-spec : {M : Type 1} → statement M
 partitions-right-spec =
@@ -69,11 +69,10 @@ partitions-right-spec =
     returns
     returns-2
     loop-holds
-    mul-within
-    shared-slice-read-within
-    within-requires
-    returns-3
+    mul-all
+    shared-slice-read-all
     add-i
     loop-less
     loop-again
-    returns-4)
+    within-requires
+    returns-3)

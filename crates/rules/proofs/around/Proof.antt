@@ -1,23 +1,37 @@
--- `rules::around` meets its contract. Assumes nothing.
-use mathlib.Core.Path.{sym, ap}
-use mathlib.Core.Bool.{Bool}
-use Prim.Native.Nat.{_+_}
-use borrow.Author.Tests.{eq-eqb, ne-eqb}
-use Rattle.taxa.specs.Sets.{pick}
+-- `rules::around` meets its contract: four are met exactly where both pairs are. Assumes nothing.
+use mathlib.Core.Path.{sym, _∙_}
+use lib.Dec.{eqb}
+use lib.ListN.{length}
+use borrow.Author.Tests.{not-true, not-false}
+use Rattle.taxa.proofs.Bools.{and-false-r}
+use Rattle.moves.specs.Groups.{met}
+use Rattle.rules.proofs.Judging.{four-met}
 use borrow.Author.Needs.{needs}
 use Rattle.rules.proofs.around.Statement.{statement}
 use Rattle.rules.proofs.around.Tie as tie
 
-add-if1 : tie.Need-add-if1
-add-if1 c = search needs
+all-met-requires : tie.Need-all-met-requires
+all-met-requires c κs = search needs
 
 returns : tie.Need-returns
 returns c =
-    sym (ap (λ (b : Bool). pick b 2 0) (eq-eqb (c .before .args .k + c .before .args .j) 4 (c .if1 .taken)))
+    let st = c .before .before .before .before in
+    rw (four-met (st .args .y) (st .args .gs .now) (st .args .hs .now) (st .pre), sym (c .before .all-met .ensures) ∙ not-true (c .before .all-met .result) (c .if1 .taken))
+
+all-met-requires-2 : tie.Need-all-met-requires-2
+all-met-requires-2 c κs = search needs
 
 returns-2 : tie.Need-returns-2
 returns-2 c =
-    sym (ap (λ (b : Bool). pick b 2 0) (ne-eqb (c .before .args .k + c .before .args .j) 4 (c .if1 .left)))
+    let st = c .before .before .before .before .before .before in
+    rw (four-met (st .args .y) (st .args .gs .now) (st .args .hs .now) (st .pre), sym (c .before .all-met2 .ensures) ∙ not-true (c .before .all-met2 .result) (c .if2 .taken), and-false-r (eqb (met (st .args .y) (st .args .gs .now)) (length (st .args .gs .now))))
+
+returns-3 : tie.Need-returns-3
+returns-3 c =
+    let st = c .before .before .before .before .before .before in
+    let one = c .before .before .before .all-met in
+    let two = c .before .all-met2 in
+    rw (four-met (st .args .y) (st .args .gs .now) (st .args .hs .now) (st .pre), sym (one .ensures) ∙ not-false (one .result) (c .before .before .if1 .left), sym (two .ensures) ∙ not-false (two .result) (c .if2 .left))
 
 pub around-spec : {M : Type 1} → statement M
-around-spec = tie.close (tie.spec add-if1 returns returns-2)
+around-spec = tie.close (tie.spec all-met-requires returns all-met-requires-2 returns-2 returns-3)

@@ -1,25 +1,23 @@
--- `rules::count_met` meets its contract. The loop's invariant: r counts the groups met of the first i. Assumes nothing.
-use mathlib.Core.Path.{_≡_, refl, ap, _∙_}
+-- `rules::count_met` meets its contract. The loop's invariant: r and the groups met from place i on are all. Assumes nothing.
+use mathlib.Core.Path.{_≡_}
 use Prim.Native.Nat.{_+_, _≤_, _-_}
 use native.Mathlib.Omega.{arith}
-use lib.ListN.{length, take}
-use lib.Seq.{length-take-le, take-all}
+use lib.ListN.{length, drop}
 use Rattle.moves.specs.Groups.{met}
 use Rattle.moves.proofs.GroupLists.{met-le}
-use Rattle.rules.proofs.Judging.{met-next}
+use Rattle.rules.proofs.Judging.{met-rest, met-end}
 use borrow.Author.Needs.{needs}
 use Rattle.rules.proofs.count_met.Statement.{statement}
 use Rattle.rules.proofs.count_met.Tie as tie
 
 abbrev Inv-loop : tie.InvT-loop
-Inv-loop gs y r₀ i₀ r i = (i ≤ length gs) × (r ≡ met y (take i gs))
+Inv-loop gs y r₀ i₀ r i = (i ≤ length gs) × (r + met y (drop i gs) ≡ met y gs)
 
 abbrev μ-loop : tie.MeasureT-loop
 μ-loop gs y r₀ i₀ r i = length gs - i
 
 loop-holds : tie.Need-loop-holds Inv-loop μ-loop
-unfolding met
-loop-holds c = (search needs, refl)
+loop-holds c = (search needs, omega arith)
 
 mul-meets : tie.Need-mul-meets Inv-loop μ-loop
 mul-meets c = search needs
@@ -33,8 +31,7 @@ meets-requires c κs = search needs
 add-r : tie.Need-add-r Inv-loop μ-loop
 add-r c =
     let st = c .before .before .before .before .before in
-    let i = c .before .before .before .loop .i in
-    omega (arith, met-next (st .args .y) (st .args .gs .now) i (c .before .before .loop-test .taken), met-le (st .args .y) (take (i + 1) (st .args .gs .now)), length-take-le (i + 1) (st .args .gs .now) (search needs))
+    omega (arith, met-rest (st .args .y) (st .args .gs .now) (c .before .before .before .loop .i) (c .before .before .loop-test .taken), met-le (st .args .y) (st .args .gs .now))
 
 add-i : tie.Need-add-i Inv-loop μ-loop
 add-i c = search needs
@@ -45,10 +42,11 @@ loop-less c = search needs
 loop-again : tie.Need-loop-again Inv-loop μ-loop
 loop-again c =
     let st = c .before .before .before .before .before in
-    (search needs, omega (arith, met-next (st .args .y) (st .args .gs .now) (c .before .before .before .loop .i) (c .before .before .loop-test .taken)))
+    (search needs, omega (arith, met-rest (st .args .y) (st .args .gs .now) (c .before .before .before .loop .i) (c .before .before .loop-test .taken)))
 
 returns : tie.Need-returns Inv-loop μ-loop
-returns c = c .before .loop .inv .1 ∙ ap (met (c .before .before .before .args .y)) (take-all (c .before .loop .i) (c .before .before .before .args .gs .now) (search needs))
+returns c =
+    omega (arith, c .before .loop .inv .1, met-end (c .before .before .before .args .y) (c .before .before .before .args .gs .now) (c .before .loop .i) (c .before .loop .inv .0) (search needs))
 
 pub count-met-spec : {M : Type 1} → statement M
 count-met-spec =

@@ -35,7 +35,7 @@ slice-write-out : tie.Need-slice-write-out Inv-loop μ-loop
 slice-write-out c =
     let st = c .before .before .before .before .before .before .before .before in
     let at = c .before .before .before .loop in
-    omega (arith, judge-length (st .args .ys .now) (at .i) (at .inv .0) (at .inv .1) (st .pre .2))
+    omega (arith, judge-length (st .args .ys .now) (at .i) (at .inv .0) (at .inv .1) (st .pre .1))
 
 cast-r : tie.Need-cast-r Inv-loop μ-loop
 cast-r c = search needs
@@ -56,13 +56,13 @@ loop-again : tie.Need-loop-again Inv-loop μ-loop
 loop-again c =
     let st = c .before .before .before .before .before .before .before .before in
     let at = c .before .before .before .loop in
-    (search needs, judge-next (st .args .ys .now) (at .i) (at .inv .0) (at .inv .1) (st .pre .2) (c .before .before .loop-test .taken) (c .distance .result) (c .distance .ensures))
+    (search needs, judge-next (st .args .ys .now) (at .i) (at .inv .0) (at .inv .1) (st .pre .1) (c .before .before .loop-test .taken) (c .distance .result) (c .distance .ensures))
 
 same-length : tie.Need-same-length Inv-loop μ-loop
 same-length c =
     let st = c .before .before .before .before .before .before in
     let at = c .before .loop in
-    judge-length (st .args .ys .now) (at .i) (at .inv .0) (at .inv .1) (st .pre .2)
+    judge-length (st .args .ys .now) (at .i) (at .inv .0) (at .inv .1) (st .pre .1)
 
 returns : tie.Need-returns Inv-loop μ-loop
 returns c =

@@ -1,22 +1,22 @@
 -- `sides::all_marked` meets its contract. Assumes nothing.
-use mathlib.Core.Path.{_≡_, refl, sym, ap, _∙_}
-use mathlib.Core.Bool.{true}
 use Prim.Native.Nat.{_≤_, _-_}
+use mathlib.Core.Path.{_≡_, refl, ap, _∙_}
 use native.Mathlib.Omega.{arith}
+use lib.Dec.{eqb}
+use lib.ListN.{getD}
 use Rattle.tree.specs.Tree.{nodes, every}
-use Rattle.tree.proofs.RowCounts.{not-every, every-more}
+use Rattle.table.proofs.Gathers.{byte-none, gather-more}
 use Rattle.sides.specs.Marks.{mark}
-use Rattle.sides.proofs.MarkLaws.{mark-yes, mark-not}
 use borrow.Author.Needs.{needs}
 use Rattle.sides.proofs.all_marked.Statement.{statement}
 use Rattle.sides.proofs.all_marked.Tie as tie
 
 abbrev Inv-loop : tie.InvT-loop
-Inv-loop n marks m v₀ v =
-    (v ≤ nodes n) × (every (mark marks) v ≡ true)
+Inv-loop n marks m bad₀ v₀ bad v =
+    (v ≤ nodes n) × (eqb bad 0 ≡ every (mark marks) v)
 
 abbrev μ-loop : tie.MeasureT-loop
-μ-loop n marks m v₀ v =
+μ-loop n marks m bad₀ v₀ bad v =
     nodes n - v
 
 mul-m : tie.Need-mul-m Inv-loop μ-loop
@@ -30,14 +30,11 @@ unfolding every
 loop-holds c =
     (search needs, refl)
 
-element-copy-out-if1 : tie.Need-element-copy-out-if1 Inv-loop μ-loop
-element-copy-out-if1 c = search needs
+element-copy-out-bad : tie.Need-element-copy-out-bad Inv-loop μ-loop
+element-copy-out-bad c = search needs
 
-returns : tie.Need-returns Inv-loop μ-loop
-returns c =
-    let ms = c .before .before .before .before .args .marks .now in
-    let v = c .before .before .before .loop .v in
-    sym (not-every (mark ms) (nodes (c .before .before .before .before .args .n)) v (c .before .before .loop-test .taken) (mark-not ms v (c .if1 .taken)))
+cast-bad : tie.Need-cast-bad Inv-loop μ-loop
+cast-bad c = search needs
 
 add-v : tie.Need-add-v Inv-loop μ-loop
 add-v c = search needs
@@ -46,15 +43,15 @@ loop-less : tie.Need-loop-less Inv-loop μ-loop
 loop-less c = search needs
 
 loop-again : tie.Need-loop-again Inv-loop μ-loop
+unfolding mark
 loop-again c =
-    let ms = c .before .before .before .before .args .marks .now in
-    let v = c .before .before .before .loop .v in
-    (omega arith, every-more (mark ms) v (c .before .before .before .loop .inv .1) (mark-yes ms v (c .if1 .left)))
+    let ms = c .before .before .before .args .marks .now in
+    let at = c .before .before .loop in
+    (search needs, gather-more (mark ms) (at .v) (at .bad) _ (at .inv .1) (byte-none (eqb (getD ms (at .v) 0) 0)))
 
-returns-2 : tie.Need-returns-2 Inv-loop μ-loop
-returns-2 c =
-    let done : c .before .loop .v ≡ nodes (c .before .before .args .n) = omega arith in
-    sym (ap (every (mark (c .before .before .args .marks .now))) (sym done) ∙ c .before .loop .inv .1)
+returns : tie.Need-returns Inv-loop μ-loop
+returns c =
+    c .before .loop .inv .1 ∙ ap (every (mark (c .before .before .args .marks .now))) (omega arith)
 
 pub all-marked-spec : {M : Type 1} → statement M
 all-marked-spec =
@@ -65,9 +62,9 @@ all-marked-spec =
     mul-m
     sub-m
     loop-holds
-    element-copy-out-if1
-    returns
+    element-copy-out-bad
+    cast-bad
     add-v
     loop-less
     loop-again
-    returns-2)
+    returns)

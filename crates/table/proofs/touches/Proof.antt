@@ -8,10 +8,6 @@ use Rattle.tree.specs.Tree.{lo, hi}
 use borrow.Author.Needs.{needs}
 use Rattle.table.proofs.touches.Statement.{statement}
 use Rattle.table.proofs.touches.Tie as tie
-use Rattle.table.proofs.touches.Reads as reads
-use Rattle.table.proofs.touches.Lts as lts
-use Rattle.table.proofs.hi.Reads as hi-reads
-use Rattle.table.proofs.lo.Reads as lo-reads
 
 lo-requires : tie.Need-lo-requires
 lo-requires c κs = search needs
