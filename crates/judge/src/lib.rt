@@ -81,10 +81,9 @@ fn apply_tree(n: usize, t: &mut [u8], near: &[u8], s: &[u64], m: Move) -> Moved
 pub fn apply_move(n: usize, t: &mut [u8], m: Move) -> Moved
     ensures { λ r. ⌜ Applies n (now (t .entry)) (moveOf m) r (now (t .exit)) ⌝ }
 {
-    let l = sides::look(n, t);
-    let near = l.near;
-    let s = l.sides;
-    let answer = l.answer;
+    let mut near = [near::FREE; near::PLACES];
+    let mut s = [0u64; sides::ROWS];
+    let answer = sides::look(n, t, &mut near, &mut s);
     match answer {
         Checked::Refused(r) => Moved::Refused(r),
         Checked::Tree => apply_tree(n, t, &near, &s, m),
@@ -231,10 +230,9 @@ fn judge_tree(
 pub fn judge_move(n: usize, t: &[u8], ys: &[u64], m: Move, out: &mut [u64]) -> Judged
     ensures { λ r. ⌜ JudgesAll n (now (t .entry)) (now (ys .entry)) (moveOf m) (now (out .entry)) r (now (out .exit)) ⌝ }
 {
-    let l = sides::look(n, t);
-    let near = l.near;
-    let s = l.sides;
-    let answer = l.answer;
+    let mut near = [near::FREE; near::PLACES];
+    let mut s = [0u64; sides::ROWS];
+    let answer = sides::look(n, t, &mut near, &mut s);
     match answer {
         Checked::Refused(r) => Judged::Refused(r),
         Checked::Tree => judge_tree(n, t, &near, &s, ys, m, out),
@@ -272,10 +270,9 @@ fn one_tree(n: usize, t: &[u8], near: &[u8], s: &[u64], y: u64, m: Move) -> Verd
 pub fn judge_one(n: usize, t: &[u8], y: u64, m: Move) -> Verdict
     ensures { λ r. ⌜ JudgesOne n (now (t .entry)) y (moveOf m) r ⌝ }
 {
-    let l = sides::look(n, t);
-    let near = l.near;
-    let s = l.sides;
-    let answer = l.answer;
+    let mut near = [near::FREE; near::PLACES];
+    let mut s = [0u64; sides::ROWS];
+    let answer = sides::look(n, t, &mut near, &mut s);
     match answer {
         Checked::Refused(r) => Verdict::Refused(r),
         Checked::Tree => one_tree(n, t, &near, &s, y, m),

@@ -182,10 +182,9 @@ pub fn list_move(
 ) -> Lines
     ensures { λ r. ⌜ Lists n (now (t .entry)) (now (ys .entry)) (moveOf m) number (now (out .entry)) place r (now (t .exit)) (now (out .exit)) ⌝ }
 {
-    let l = sides::look(n, t);
-    let near = l.near;
-    let s = l.sides;
-    let answer = l.answer;
+    let mut near = [near::FREE; near::PLACES];
+    let mut s = [0u64; sides::ROWS];
+    let answer = sides::look(n, t, &mut near, &mut s);
     match answer {
         Checked::Refused(r) => Lines::Refused(r),
         Checked::Tree => list_tree(n, t, &near, &s, ys, m, number, out, place),

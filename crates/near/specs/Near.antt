@@ -3,7 +3,7 @@ use Prim.Native.Nat.{ℕ, _+_, _*_, _≤_, _<_}
 use mathlib.Core.Path.{_≡_}
 use mathlib.Core.List.{List, [], _∷_}
 use lib.Dec.{eqb}
-use lib.ListN.{length, getD, set}
+use lib.ListN.{length, getD, set, replicate}
 use Rattle.taxa.specs.Most.{most}
 use Rattle.taxa.specs.Sets.{pick}
 use Rattle.tree.specs.Tree.{rows, nodes, rowsAt}
@@ -11,6 +11,10 @@ use Rattle.tree.specs.Tree.{rows, nodes, rowsAt}
 -- a free place holds 255, which is no row
 abbrev pub free : ℕ
 free = 255
+
+-- all places are free
+abbrev pub noRows : List ℕ
+noRows = replicate (3 * nodes most) free
 
 -- r put in v's first free place of a
 unfoldable pub hooked : List ℕ → ℕ → ℕ → List ℕ

@@ -5,7 +5,7 @@ ghost use lib.ListN.{length, getD};
 ghost use Rattle.taxa.specs.Most.{most};
 ghost use Rattle.tree.specs.Tree.{nodes};
 ghost use Rattle.table.specs.Rowed.{Rowed};
-ghost use Rattle.near.specs.Near.{hooked, Near, otherFirst, otherSecond};
+ghost use Rattle.near.specs.Near.{noRows, hooked, Near, otherFirst, otherSecond};
 
 // Three places for each of the most nodes that a tree has.
 pub const PLACES: usize = 378;
@@ -36,23 +36,21 @@ fn hook(a: &mut [u8; PLACES], v: usize, r: u8)
     a[p + 2] = r;
 }
 
-// The rows at each node.
-pub fn rows_at(n: usize, t: &[u8]) -> [u8; PLACES]
-    requires { ⌜ Rowed n (now t) ⌝ }
-    ensures { λ a. ⌜ Near n (now (t .entry)) a ⌝ }
+// Puts the rows at each node into their places, all of which are free before.
+pub fn hook_rows(n: usize, t: &[u8], a: &mut [u8; PLACES])
+    requires { ⌜ (Rowed n (now t)) × (now a ≡ noRows) ⌝ }
+    ensures { λ _. ⌜ Near n (now (t .entry)) (now (a .exit)) ⌝ }
 {
-    let mut a = [FREE; PLACES];
     let m = 2 * n - 3;
     let mut i: usize = 0;
     while i < m {
         let u = table::lo(t, i);
         let v = table::hi(t, i);
         let r = i as u8;
-        hook(&mut a, u, r);
-        hook(&mut a, v, r);
+        hook(a, u, r);
+        hook(a, v, r);
         i += 1;
     }
-    a
 }
 
 // The row in place k of node v.

@@ -7,7 +7,7 @@ ghost use Rattle.tree.specs.Tree.{rows, nodes, every, fromZero};
 ghost use Rattle.tree.specs.Refusals.{treeSaid, Accepted};
 ghost use Rattle.table.specs.Says.{checkSays};
 ghost use Rattle.table.specs.Rowed.{Rowed};
-ghost use Rattle.near.specs.Near.{Near};
+ghost use Rattle.near.specs.Near.{noRows, Near};
 ghost use Rattle.sides.specs.Filled.{Sides};
 ghost use Rattle.sides.specs.Marks.{mark};
 ghost use Rattle.sides.specs.Walked.{noted, Walks, Walked, Found};
@@ -19,13 +19,6 @@ pub const ROWS: usize = 125;
 
 // The most nodes that a tree has.
 const NODES: usize = 126;
-
-// The check of a table, with the rows at each node and the side of every row where it is a tree.
-pub struct Looked {
-    pub answer: Checked,
-    pub near: [u8; near::PLACES],
-    pub sides: [u64; ROWS],
-}
 
 // Stores the side of row e, s being the taxa with its end v.
 fn note(n: usize, t: &[u8], sides: &mut [u64; ROWS], e: usize, v: usize, s: u64)
@@ -102,31 +95,20 @@ fn all_reached(n: usize, t: &[u8], near: &[u8; near::PLACES], sides: &mut [u64; 
     all_marked(n, &marks)
 }
 
-// The check of a tree, with the rows at each node and the side of every row of one.
-pub fn look(n: usize, t: &[u8]) -> Looked
-    ensures { λ l. ⌜ Found n (now (t .entry)) (l .answer) (l .near) (l .sides) ⌝ }
+// The check of a tree; the rows at each node and the side of every row of one are left in the lent arrays.
+pub fn look(n: usize, t: &[u8], near: &mut [u8; near::PLACES], sides: &mut [u64; ROWS]) -> Checked
+    requires { ⌜ (now near ≡ noRows) × (length (now sides) ≡ rows most) ⌝ }
+    ensures { λ r. ⌜ Found n (now (t .entry)) r (now (near .exit)) (now (sides .exit)) ⌝ }
 {
-    match table::check_rows(n, t) {
-        Checked::Refused(r) => Looked {
-            answer: Checked::Refused(r),
-            near: [near::FREE; near::PLACES],
-            sides: [0u64; ROWS],
-        },
+    let answer = table::check_rows(n, t);
+    match answer {
+        Checked::Refused(r) => Checked::Refused(r),
         Checked::Tree => {
-            let near = near::rows_at(n, t);
-            let mut sides = [0u64; ROWS];
-            if all_reached(n, t, &near, &mut sides) {
-                return Looked {
-                    answer: Checked::Tree,
-                    near,
-                    sides,
-                };
+            near::hook_rows(n, t, near);
+            if all_reached(n, t, near, sides) {
+                return Checked::Tree;
             }
-            Looked {
-                answer: Checked::Refused(Refusal::Unreached),
-                near,
-                sides,
-            }
+            Checked::Refused(Refusal::Unreached)
         }
     }
 }
@@ -135,6 +117,7 @@ pub fn look(n: usize, t: &[u8]) -> Looked
 pub fn check_tree(n: usize, t: &[u8]) -> Checked
     ensures { λ r. ⌜ checkSays r ≡ treeSaid n (now (t .entry)) ⌝ }
 {
-    let l = look(n, t);
-    l.answer
+    let mut near = [near::FREE; near::PLACES];
+    let mut sides = [0u64; ROWS];
+    look(n, t, &mut near, &mut sides)
 }

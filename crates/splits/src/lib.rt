@@ -108,9 +108,9 @@ fn induced_tree(n: usize, t: &[u8], s: &[u64; sides::ROWS], y: u64, out: &mut [u
 pub fn induced_splits(n: usize, t: &[u8], y: u64, out: &mut [u64]) -> Induced
     ensures { λ r. ⌜ Induces n (now (t .entry)) y (now (out .entry)) r (now (out .exit)) ⌝ }
 {
-    let l = sides::look(n, t);
-    let s = l.sides;
-    let answer = l.answer;
+    let mut near = [near::FREE; near::PLACES];
+    let mut s = [0u64; sides::ROWS];
+    let answer = sides::look(n, t, &mut near, &mut s);
     match answer {
         Checked::Refused(r) => Induced::Refused(r),
         Checked::Tree => induced_tree(n, t, &s, y, out),
@@ -152,9 +152,9 @@ fn compare_second(n: usize, t: &[u8], a: &[u64; sides::ROWS], u: &[u8], y: u64) 
     requires { ⌜ (Accepted n (now t)) × (Sides n (now t) (now a)) ⌝ }
     ensures { λ r. ⌜ compareSays r ≡ comparedSaid n (now (t .entry)) (now (u .entry)) y ⌝ }
 {
-    let l = sides::look(n, u);
-    let b = l.sides;
-    let answer = l.answer;
+    let mut near = [near::FREE; near::PLACES];
+    let mut b = [0u64; sides::ROWS];
+    let answer = sides::look(n, u, &mut near, &mut b);
     match answer {
         Checked::Refused(r) => Compared::Refused(r),
         Checked::Tree => {
@@ -170,9 +170,9 @@ fn compare_second(n: usize, t: &[u8], a: &[u64; sides::ROWS], u: &[u8], y: u64) 
 pub fn compare(n: usize, t: &[u8], u: &[u8], y: u64) -> Compared
     ensures { λ r. ⌜ compareSays r ≡ comparedSaid n (now (t .entry)) (now (u .entry)) y ⌝ }
 {
-    let l = sides::look(n, t);
-    let s = l.sides;
-    let answer = l.answer;
+    let mut near = [near::FREE; near::PLACES];
+    let mut s = [0u64; sides::ROWS];
+    let answer = sides::look(n, t, &mut near, &mut s);
     match answer {
         Checked::Refused(r) => Compared::Refused(r),
         Checked::Tree => compare_second(n, t, &s, u, y),

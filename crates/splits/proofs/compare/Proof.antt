@@ -1,4 +1,9 @@
 -- `splits::compare` meets its contract. Assumes nothing.
+use Rattle.tree.specs.Tree.{rows}
+use Rattle.taxa.specs.Most.{most}
+use lib.ListN.{length-replicate}
+use Prim.Native.Nat.{ℕ}
+use mathlib.Core.Path.{refl}
 use Rattle.sides.proofs.LookLaws.{found-tree-is, found-refused}
 use Rattle.splits.proofs.SaidLaws.{compares-first}
 use borrow.Author.Needs.{needs}
@@ -6,7 +11,8 @@ use Rattle.splits.proofs.compare.Statement.{statement}
 use Rattle.splits.proofs.compare.Tie as tie
 
 look-requires : tie.Need-look-requires
-look-requires c κs = search needs
+look-requires c κs =
+    (refl, length-replicate {A = ℕ} (rows most) 0)
 
 enum-known-answer : tie.Need-enum-known-answer
 enum-known-answer c = search needs
@@ -16,14 +22,14 @@ enum-told c = search needs
 
 compare-second-requires : tie.Need-compare-second-requires
 compare-second-requires c κs =
-    let s = c .before .before .before .before .before .before .before in
-    let w = found-tree-is (s .args .n) (s .args .t .now) _ _ _ (c .before .before .before .before .look .ensures) (c .before .enum-told .given .1) in
+    let s = c .before .before .before .before .before .before .before .before in
+    let w = found-tree-is (s .args .n) (s .args .t .now) _ _ _ (c .before .before .before .look .ensures) (c .before .enum-told .given .1) in
     (w .0, w .2)
 
 returns : tie.Need-returns
 returns c =
-    let s = c .before .before .before .before .before .before .before in
-    compares-first (s .args .n) (s .args .t .now) (s .args .u .now) (s .args .y) _ (found-refused (s .args .n) (s .args .t .now) _ _ _ _ (c .before .before .before .before .look .ensures) (c .before .answer .given .1))
+    let s = c .before .before .before .before .before .before .before .before in
+    compares-first (s .args .n) (s .args .t .now) (s .args .u .now) (s .args .y) _ (found-refused (s .args .n) (s .args .t .now) _ _ _ _ (c .before .before .before .look .ensures) (c .before .answer .given .1))
 
 returns-2 : tie.Need-returns-2
 returns-2 c = search needs

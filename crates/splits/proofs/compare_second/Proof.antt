@@ -1,5 +1,9 @@
 -- `splits::compare_second` meets its contract. Assumes nothing.
-use mathlib.Core.Path.{sym, _∙_}
+use Rattle.tree.specs.Tree.{rows}
+use Rattle.taxa.specs.Most.{most}
+use lib.ListN.{length-replicate}
+use Prim.Native.Nat.{ℕ}
+use mathlib.Core.Path.{refl, sym, _∙_}
 use native.Mathlib.Omega.{arith}
 use borrow.Author.Tests.{ltb-true}
 use Rattle.sides.proofs.LookLaws.{found-tree-is, found-refused}
@@ -9,7 +13,8 @@ use Rattle.splits.proofs.compare_second.Statement.{statement}
 use Rattle.splits.proofs.compare_second.Tie as tie
 
 look-requires : tie.Need-look-requires
-look-requires c κs = search needs
+look-requires c κs =
+    (refl, length-replicate {A = ℕ} (rows most) 0)
 
 enum-known-answer : tie.Need-enum-known-answer
 enum-known-answer c = search needs
@@ -19,29 +24,29 @@ enum-told c = search needs
 
 within-requires : tie.Need-within-requires
 within-requires c κs =
-    (omega (arith, c .before .before .before .before .before .before .pre .0 .valid .big), c .before .before .before .before .before .before .pre .0 .few)
+    (omega (arith, c .before .before .before .before .before .before .before .pre .0 .valid .big), c .before .before .before .before .before .before .before .pre .0 .few)
 
 compare-trees-requires : tie.Need-compare-trees-requires
 compare-trees-requires c κs =
-    let s = c .before .before .before .before .before .before .before .before .before in
-    let w = found-tree-is (s .args .n) (s .args .u .now) _ _ _ (c .before .before .before .before .before .before .look .ensures) (c .before .before .before .enum-told .given .1) in
+    let s = c .before .before .before .before .before .before .before .before .before .before in
+    let w = found-tree-is (s .args .n) (s .args .u .now) _ _ _ (c .before .before .before .before .before .look .ensures) (c .before .before .before .enum-told .given .1) in
     (s .pre .0, s .pre .1, w .0, w .2, ltb-true _ _ (sym (c .before .before .within .ensures) ∙ c .before .if1 .taken))
 
 returns : tie.Need-returns
 returns c =
-    let s = c .before .before .before .before .before .before .before .before .before .before in
-    let w = found-tree-is (s .args .n) (s .args .u .now) _ _ _ (c .before .before .before .before .before .before .before .look .ensures) (c .before .before .before .before .enum-told .given .1) in
+    let s = c .before .before .before .before .before .before .before .before .before .before .before in
+    let w = found-tree-is (s .args .n) (s .args .u .now) _ _ _ (c .before .before .before .before .before .before .look .ensures) (c .before .before .before .before .enum-told .given .1) in
     c .compare-trees .ensures ∙ compares-both (s .args .n) (s .args .t .now) (s .args .u .now) (s .args .y) (s .pre .0) (w .0) (sym (c .before .before .before .within .ensures) ∙ c .before .before .if1 .taken)
 
 returns-2 : tie.Need-returns-2
 returns-2 c =
-    let s = c .before .before .before .before .before .before .before in
-    compares-second (s .args .n) (s .args .t .now) (s .args .u .now) (s .args .y) (s .pre .0) _ (found-refused (s .args .n) (s .args .u .now) _ _ _ _ (c .before .before .before .before .look .ensures) (c .before .answer .given .1))
+    let s = c .before .before .before .before .before .before .before .before in
+    compares-second (s .args .n) (s .args .t .now) (s .args .u .now) (s .args .y) (s .pre .0) _ (found-refused (s .args .n) (s .args .u .now) _ _ _ _ (c .before .before .before .look .ensures) (c .before .answer .given .1))
 
 returns-3 : tie.Need-returns-3
 returns-3 c =
-    let s = c .before .before .before .before .before .before .before .before in
-    let w = found-tree-is (s .args .n) (s .args .u .now) _ _ _ (c .before .before .before .before .before .look .ensures) (c .before .before .enum-told .given .1) in
+    let s = c .before .before .before .before .before .before .before .before .before in
+    let w = found-tree-is (s .args .n) (s .args .u .now) _ _ _ (c .before .before .before .before .look .ensures) (c .before .before .enum-told .given .1) in
     compares-6 (s .args .n) (s .args .t .now) (s .args .u .now) (s .args .y) (s .pre .0) (w .0) (sym (c .before .within .ensures) ∙ c .if1 .left)
 
 pub compare-second-spec : {M : Type 1} → statement M
