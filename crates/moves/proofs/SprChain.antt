@@ -17,12 +17,13 @@ use Rattle.tree.proofs.Joins.{flat-join, apart-join}
 use Rattle.tree.proofs.Colourings.{Parts, Hangs, row-parts, valid-table}
 use Rattle.tree.proofs.SplitLaws.{split-eq, num, num-of, kept-in, kept-out, splits-asc}
 use Rattle.tree.proofs.Forks.{Fork, joined, at-c}
+use Rattle.tree.proofs.Lists.{cons-head, cons-tail}
 use Rattle.moves.proofs.RowEnds.{both-in}
 use Rattle.moves.proofs.GroupLists.{any}
 use Rattle.moves.proofs.RowSplits.{Row, row-eq, row-mem, no-cross}
 use Rattle.moves.proofs.Chain.{with-w, has-with, Chain, split-none}
 use Rattle.moves.proofs.Graft.{Graft, pr, a-parts, keep-parts, hang-parts, far-parts, cross-parts, near-parts, crossed}
-use Rattle.moves.proofs.Walk.{Taxa, Walk, next, fork-turn, Base, behind, behind-v, behind-H, behind-taxa, no-common, inside-step, false-sub, out-z, b-on-way, exact, exact-cut, cut-rows, cons-head, cons-tail}
+use Rattle.moves.proofs.Walk.{Taxa, Walk, next, fork-turn, Base, behind, behind-v, behind-H, behind-taxa, no-common, inside-step, false-sub, out-z, b-on-way, exact, exact-cut, cut-rows}
 use Rattle.moves.proofs.WalkRows.{Inv, base, taxon-crossed, cut-rows′, group-rows, OnWay, on-way, off-way, far-set}
 
 -- The way from p: first the group g₁ that hangs by h, then those on the way from r. W has the taxa of M.

@@ -14,6 +14,7 @@ use Rattle.tree.specs.Lists.{mem}
 use Rattle.tree.proofs.Joins.{Joins, flat-join, apart-join, joins-nodes}
 use Rattle.tree.proofs.Colourings.{Hangs, parts-unique, valid-table}
 use Rattle.tree.proofs.Forks.{Fork, joined, has-joined, joined-parts, joined-out, joined-in, joined-at, at-a}
+use Rattle.tree.proofs.Lists.{cons-head, cons-tail}
 use Rattle.moves.proofs.RowEnds.{hang-apart, both-in}
 use Rattle.moves.proofs.GroupLists.{any}
 use Rattle.moves.proofs.RowSplits.{Row, row-eq}
@@ -94,12 +95,6 @@ module _ {n : ℕ} {t : List ℕ} {v x e h v′ q i P H : ℕ} (k : Fork n t v x
   inside-h j (inr w) d = at-v h i j (k .f-row) w d
 
 -- ---- lists
-pub cons-head : (x y : ℕ) (xs ys : List ℕ) → x ∷ xs ≡ y ∷ ys → x ≡ y
-cons-head x y xs ys e = cc
-
-pub cons-tail : (x y : ℕ) (xs ys : List ℕ) → x ∷ xs ≡ y ∷ ys → xs ≡ ys
-cons-tail x y xs ys e = cc
-
 pub nil-cons : (y : ℕ) (ys : List ℕ) → [] ≡ y ∷ ys → ⊥
 nil-cons y ys e = let z : _≡_ {A = ℕ} 0 1 = cc in omega arith
 

@@ -14,10 +14,11 @@ use Rattle.tree.specs.Lists.{mem}
 use Rattle.tree.proofs.Joins.{flat-join, apart-join}
 use Rattle.tree.proofs.Colourings.{Parts, Hangs}
 use Rattle.tree.proofs.Forks.{Fork, joined}
+use Rattle.tree.proofs.Lists.{cons-head, cons-tail}
 use Rattle.moves.proofs.GroupLists.{any}
 use Rattle.moves.proofs.RowSplits.{Row, row-eq}
 use Rattle.moves.proofs.Graft.{Graft, keep-parts, far-parts, cross-parts, near-parts, crossed, has-crossed}
-use Rattle.moves.proofs.Walk.{Walk, next, done, Inside, behind, behind-sub, behind-H, behind-taxa, no-common, inside-step, inside-x, inside-h, cons-head, cons-tail, nil-snoc, Base, false-sub, out-z, along, beyond-is, at-b}
+use Rattle.moves.proofs.Walk.{Walk, next, done, Inside, behind, behind-sub, behind-H, behind-taxa, no-common, inside-step, inside-x, inside-h, nil-snoc, Base, false-sub, out-z, along, beyond-is, at-b}
 
 module _ {n : ℕ} {t t′ : List ℕ} {a w h b F N X p o r s u z M : ℕ} (k : Graft n t t′ a w h b F N X p o r s u z M) where
   -- come to v by row e: P lies behind, and p with its three rows in it

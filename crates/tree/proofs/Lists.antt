@@ -13,6 +13,13 @@ use Rattle.taxa.specs.Sets.{pick}
 use Rattle.taxa.proofs.Bools.{either, or-cases, or-left, or-right, or-assoc}
 use Rattle.tree.specs.Lists.{insert, mem, lacks, firstLack}
 
+-- equal lists have equal heads and equal tails
+pub cons-head : (x y : ℕ) (xs ys : List ℕ) → x ∷ xs ≡ y ∷ ys → x ≡ y
+cons-head x y xs ys e = cc
+
+pub cons-tail : (x y : ℕ) (xs ys : List ℕ) → x ∷ xs ≡ y ∷ ys → xs ≡ ys
+cons-tail x y xs ys e = cc
+
 or-again : (p q : Bool) → (p || q) ≡ (p || (p || q))
 or-again true q = refl
 or-again false q = refl

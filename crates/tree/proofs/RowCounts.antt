@@ -14,6 +14,7 @@ use Rattle.taxa.specs.Sets.{pick, tally}
 use Rattle.taxa.proofs.Bools.{either, and-left, and-right, and-both}
 use Rattle.taxa.proofs.Sizes.{tally-le, tally-one}
 use Rattle.tree.specs.Tree.{lo, hi, rows, nodes, touches, others, every, count, Valid}
+use Rattle.tree.proofs.Lists.{cons-head}
 
 -- ---- a test of every number
 pub every-all : (f : ℕ → Bool) (k : ℕ) → every f k ≡ true → (r : ℕ) → r < k → f r ≡ true
@@ -224,9 +225,6 @@ count-less P Q k i h l p q =
     omega (arith, count-drop Q i k q l)
 
 -- the two others, from their list
-cons-head : (x y : ℕ) (xs ys : List ℕ) → x ∷ xs ≡ y ∷ ys → x ≡ y
-cons-head x y xs ys h = cc
-
 pub pair-of : (n : ℕ) (t : List ℕ) (a p f g : ℕ) → Valid n t → a < rows n → touches t a p ≡ true → n ≤ p → p < nodes n → others t a p (rows n) ≡ f ∷ g ∷ [] → Pair n t a p f g
 pair-of n t a p f g v ha ta ip lp list =
     let w = pair n t a p v ha ta ip lp in
