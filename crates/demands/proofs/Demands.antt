@@ -1,4 +1,5 @@
--- The three demands of the request, over the definitions, each theorem with a plain sentence above it. Assumes nothing.
+-- The three demands of the request, over the definitions, each theorem with a
+-- plain sentence above it. Assumes nothing.
 use mathlib.Core.Path.{_≡_}
 use mathlib.Core.Logic.{_↔_}
 use mathlib.Core.List.{List, _++_}
@@ -23,10 +24,12 @@ use Rattle.moves.specs.Moves.{Move, moved, moveChecks}
 use Rattle.moves.specs.Groups.{moveRule}
 use Rattle.moves.specs.Verdicts.{movedSaid, judgedSaid}
 use Rattle.moves.proofs.Moved.{moved-accepted, moved-dist}
-use Rattle.moves.proofs.MoveDemands.{move-same-mono, move-unchanged-mono, same-iff-splits}
+use Rattle.moves.proofs.MoveDemands.{move-same-mono, move-unchanged-mono}
+use Rattle.moves.proofs.MoveDemands.{same-iff-splits}
 use Rattle.rules.specs.Each.{zeros}
 use Rattle.rules.proofs.Judging.{zeros-unchanged}
-use Rattle.judge.specs.Promises.{done, tableAfter, Applies, howManySame, JudgesAll, JudgesOne}
+use Rattle.judge.specs.Promises.{done, tableAfter, Applies, howManySame}
+use Rattle.judge.specs.Promises.{JudgesAll, JudgesOne}
 use Rattle.judge.specs.declared.Moved.{Moved}
 use Rattle.judge.specs.declared.Judged.{Judged}
 use Rattle.judge.specs.declared.Verdict.{Verdict}
@@ -34,7 +37,8 @@ use Rattle.judge.proofs.SaidLaws.{applies-one, judges-one, verdict-one}
 use Rattle.text.specs.Lines.{savedLine}
 use Rattle.text.specs.Plain.{Plain}
 use Rattle.listing.specs.Listing as listing
-use Rattle.listing.specs.Listing.{verdictLines, moveLines, linesSaid, placeAfter, Lists}
+use Rattle.listing.specs.Listing.{verdictLines, moveLines, linesSaid}
+use Rattle.listing.specs.Listing.{placeAfter, Lists}
 use Rattle.listing.specs.declared.Lines.{Lines}
 use Rattle.listing.proofs.LineLaws.{lines-are}
 use Rattle.listing.proofs.ListsLaws.{lists-one}
@@ -49,103 +53,152 @@ use Rattle.job.proofs.PlainListing.{listing-plain}
 use Rattle.job.proofs.StateLaws.{gives-one}
 use Rattle.job.proofs.RunLaws.{run-is-listing, listing-closes}
 
--- ==== Demand 1: an answer or one refusal for every input, and a refusal leaves what was lent.
+-- ==== Demand 1: an answer or one refusal for every input, and a refusal
+-- leaves what was lent.
 
 -- Each call has one answer, and leaves one state of what was lent to it.
 pub one-check : (a b : Checked) → checkSays a ≡ checkSays b → a ≡ b
 one-check = checked-one
 
-pub one-induced : (n : ℕ) (t : List ℕ) (y : ℕ) (out : List ℕ) (a b : Induced) (p q : List ℕ) → Induces n t y out a p → Induces n t y out b q → (a ≡ b) × (p ≡ q)
+pub one-induced : (n : ℕ) (t : List ℕ) (y : ℕ) (out : List ℕ) (a b : Induced)
+    (p q : List ℕ) → Induces n t y out a p → Induces n t y out b q
+    → (a ≡ b) × (p ≡ q)
 one-induced = induces-one
 
 pub one-compared : (a b : Compared) → compareSays a ≡ compareSays b → a ≡ b
 one-compared = compared-one
 
-pub one-applied : (n : ℕ) (t : List ℕ) (m : Move) (a b : Moved) (u v : List ℕ) → Applies n t m a u → Applies n t m b v → (a ≡ b) × (u ≡ v)
+pub one-applied : (n : ℕ) (t : List ℕ) (m : Move) (a b : Moved) (u v : List ℕ)
+    → Applies n t m a u → Applies n t m b v → (a ≡ b) × (u ≡ v)
 one-applied = applies-one
 
-pub one-judged : (n : ℕ) (t ys : List ℕ) (m : Move) (out : List ℕ) (a b : Judged) (u v : List ℕ) → JudgesAll n t ys m out a u → JudgesAll n t ys m out b v → (a ≡ b) × (u ≡ v)
+pub one-judged : (n : ℕ) (t ys : List ℕ) (m : Move) (out : List ℕ)
+    (a b : Judged) (u v : List ℕ) → JudgesAll n t ys m out a u
+    → JudgesAll n t ys m out b v → (a ≡ b) × (u ≡ v)
 one-judged = judges-one
 
-pub one-verdict : (n : ℕ) (t : List ℕ) (y : ℕ) (m : Move) (a b : Verdict) → JudgesOne n t y m a → JudgesOne n t y m b → a ≡ b
+pub one-verdict : (n : ℕ) (t : List ℕ) (y : ℕ) (m : Move) (a b : Verdict)
+    → JudgesOne n t y m a → JudgesOne n t y m b → a ≡ b
 one-verdict = verdict-one
 
-pub one-listed : (n : ℕ) (t ys : List ℕ) (m : Move) (k : ℕ) (out : List ℕ) (place : ℕ) (a b : Lines) (u v o p : List ℕ)
-    → Lists n t ys m k out place a u o → Lists n t ys m k out place b v p → (a ≡ b) × (u ≡ v) × (o ≡ p)
+pub one-listed : (n : ℕ) (t ys : List ℕ) (m : Move) (k : ℕ) (out : List ℕ)
+    (place : ℕ) (a b : Lines) (u v o p : List ℕ)
+    → Lists n t ys m k out place a u o → Lists n t ys m k out place b v p
+    → (a ≡ b) × (u ≡ v) × (o ≡ p)
 one-listed = lists-one
 
-pub one-step : {o : Outcome} {a b : Stepped} {table t u parts p q out x y : List ℕ} → Gives o a table t parts p out x → Gives o b table u parts q out y → (a ≡ b) × (t ≡ u) × (p ≡ q) × (x ≡ y)
+pub one-step :
+    {o : Outcome} {a b : Stepped} {table t u parts p q out x y : List ℕ}
+    → Gives o a table t parts p out x → Gives o b table u parts q out y
+    → (a ≡ b) × (t ≡ u) × (p ≡ q) × (x ≡ y)
 one-step = gives-one
 
 -- A refused list of splits leaves the lent list.
-pub kept-induced : (n : ℕ) (t : List ℕ) (y : ℕ) (out : List ℕ) (r : Refusal) (out′ : List ℕ) → Induces n t y out (Induced.Refused r) out′ → out′ ≡ out
-kept-induced n t y out r out′ p = go (inducedSaid n t y (length out)) (p .says) (p .memory)
+pub kept-induced : (n : ℕ) (t : List ℕ) (y : ℕ) (out : List ℕ) (r : Refusal)
+    (out′ : List ℕ) → Induces n t y out (Induced.Refused r) out′ → out′ ≡ out
+kept-induced n t y out r out′ p =
+    go (inducedSaid n t y (length out)) (p .says) (p .memory)
   where
-    go : (x : Said (List ℕ)) → refuses (numberOf r) ≡ howMany x → out′ ≡ written x out → out′ ≡ out
+    go : (x : Said (List ℕ)) → refuses (numberOf r) ≡ howMany x
+        → out′ ≡ written x out → out′ ≡ out
     go (gives l) e h = absurd (let z : _≡_ {A = ℕ} 0 1 = cc in omega arith)
     go (refuses k) e h = h
 
 -- A refused move leaves the lent table.
-pub kept-applied : (n : ℕ) (t : List ℕ) (m : Move) (r : Refusal) (t′ : List ℕ) → Applies n t m (Moved.Refused r) t′ → t′ ≡ t
+pub kept-applied : (n : ℕ) (t : List ℕ) (m : Move) (r : Refusal) (t′ : List ℕ)
+    → Applies n t m (Moved.Refused r) t′ → t′ ≡ t
 kept-applied n t m r t′ p = go (movedSaid n t m) (p .says) (p .memory)
   where
-    go : (x : Said (List ℕ)) → refuses (numberOf r) ≡ done x → t′ ≡ tableAfter x t → t′ ≡ t
+    go : (x : Said (List ℕ)) → refuses (numberOf r) ≡ done x
+        → t′ ≡ tableAfter x t → t′ ≡ t
     go (gives u) e h = absurd (let z : _≡_ {A = ℕ} 0 1 = cc in omega arith)
     go (refuses k) e h = h
 
 -- A refused judgement leaves the lent list.
-pub kept-judged : (n : ℕ) (t ys : List ℕ) (m : Move) (out : List ℕ) (r : Refusal) (out′ : List ℕ) → JudgesAll n t ys m out (Judged.Refused r) out′ → out′ ≡ out
-kept-judged n t ys m out r out′ p = go (judgedSaid n t ys m (length out)) (p .says) (p .memory)
+pub kept-judged : (n : ℕ) (t ys : List ℕ) (m : Move) (out : List ℕ)
+    (r : Refusal) (out′ : List ℕ)
+    → JudgesAll n t ys m out (Judged.Refused r) out′ → out′ ≡ out
+kept-judged n t ys m out r out′ p =
+    go (judgedSaid n t ys m (length out)) (p .says) (p .memory)
   where
-    go : (x : Said (List ℕ)) → refuses (numberOf r) ≡ howManySame x → out′ ≡ written x out → out′ ≡ out
+    go : (x : Said (List ℕ)) → refuses (numberOf r) ≡ howManySame x
+        → out′ ≡ written x out → out′ ≡ out
     go (gives l) e h = absurd (let z : _≡_ {A = ℕ} 0 1 = cc in omega arith)
     go (refuses k) e h = h
 
 -- A move whose lines are refused leaves the lent table and the lent output.
-pub kept-listed : (n : ℕ) (t ys : List ℕ) (m : Move) (k : ℕ) (out : List ℕ) (place : ℕ) (r : Refusal) (t′ out′ : List ℕ) → Lists n t ys m k out place (Lines.Refused r) t′ out′ → (t′ ≡ t) × (out′ ≡ out)
-kept-listed n t ys m k out place r t′ out′ p = go (linesSaid n t ys m k (length out) place) (p .says) (p .table) (p .memory)
+pub kept-listed : (n : ℕ) (t ys : List ℕ) (m : Move) (k : ℕ) (out : List ℕ)
+    (place : ℕ) (r : Refusal) (t′ out′ : List ℕ)
+    → Lists n t ys m k out place (Lines.Refused r) t′ out′
+    → (t′ ≡ t) × (out′ ≡ out)
+kept-listed n t ys m k out place r t′ out′ p =
+    go (linesSaid n t ys m k (length out) place) (p .says) (p .table) (p .memory)
   where
-    go : (x : Said (List ℕ)) → refuses (numberOf r) ≡ placeAfter place x → t′ ≡ listing.tableThen x (moved n t m) t → out′ ≡ listing.outThen x place out → (t′ ≡ t) × (out′ ≡ out)
+    go : (x : Said (List ℕ)) → refuses (numberOf r) ≡ placeAfter place x
+        → t′ ≡ listing.tableThen x (moved n t m) t
+        → out′ ≡ listing.outThen x place out → (t′ ≡ t) × (out′ ≡ out)
     go (gives l) e a b = absurd (let z : _≡_ {A = ℕ} 0 1 = cc in omega arith)
     go (refuses j) e a b = (a, b)
 
 -- A refused step leaves the lent table, partitions and output.
-pub kept-step : (o : Outcome) (r : Refusal) (place : ℕ) (table t parts p out x : List ℕ) → Gives o (Stepped.Refused r place) table t parts p out x → (t ≡ table) × (p ≡ parts) × (x ≡ out)
-kept-step o r place table t parts p out x g = go o (g .says) (g .table-then) (g .parts-then) (g .out-then)
+pub kept-step : (o : Outcome) (r : Refusal) (place : ℕ)
+    (table t parts p out x : List ℕ)
+    → Gives o (Stepped.Refused r place) table t parts p out x
+    → (t ≡ table) × (p ≡ parts) × (x ≡ out)
+kept-step o r place table t parts p out x g =
+    go o (g .says) (g .table-then) (g .parts-then) (g .out-then)
   where
-    go : (q : Outcome) → steps.stopped (numberOf r) place ≡ toldOf q → t ≡ steps.tableThen q table → p ≡ steps.partsThen q parts → x ≡ steps.outThen q out → (t ≡ table) × (p ≡ parts) × (x ≡ out)
-    go (next k ls) e a b c = absurd (let z : _≡_ {A = ℕ} 0 1 = cc in omega arith)
+    go : (q : Outcome) → steps.stopped (numberOf r) place ≡ toldOf q
+        → t ≡ steps.tableThen q table → p ≡ steps.partsThen q parts
+        → x ≡ steps.outThen q out → (t ≡ table) × (p ≡ parts) × (x ≡ out)
+    go (next k ls) e a b c =
+        absurd (let z : _≡_ {A = ℕ} 0 1 = cc in omega arith)
     go over e a b c = (a, b, c)
     go (stop j w) e a b c = (a, b, c)
 
--- Every job comes to an end: its listing closes with `end M` or with `refused N at P`.
+-- Every job comes to an end: its listing closes with `end M` or with `refused
+-- N at P`.
 pub every-job-ends : (j : List ℕ) → Closes (job.listing j)
 every-job-ends = listing-closes
 
--- ==== Demand 2: the tree after a move, the induced splits, each verdict, each distance and the counts are those of the definitions.
+-- ==== Demand 2: the tree after a move, the induced splits, each verdict, each
+-- distance and the counts are those of the definitions.
 
 -- The table after an accepted move on a tree is a tree again.
-pub tree-after : (n : ℕ) (t : List ℕ) (m : Move) → Accepted n t → Pass (moveChecks n t m) → Accepted n (moved n t m)
+pub tree-after : (n : ℕ) (t : List ℕ) (m : Move) → Accepted n t
+    → Pass (moveChecks n t m) → Accepted n (moved n t m)
 tree-after = moved-accepted
 
--- A partition is the same exactly when its induced split sets before and after are equal.
-pub same-exactly : (n : ℕ) (t : List ℕ) (m : Move) (y : ℕ) → (dist n t (moved n t m) y ≡ 0) ↔ (splits n t y ≡ splits n (moved n t m) y)
+-- A partition is the same exactly when its induced split sets before and after
+-- are equal.
+pub same-exactly : (n : ℕ) (t : List ℕ) (m : Move) (y : ℕ)
+    → (dist n t (moved n t m) y ≡ 0) ↔ (splits n t y ≡ splits n (moved n t m) y)
 same-exactly = same-iff-splits
 
--- The papers' count of groups gives that distance, for every tree, accepted move and partition.
-pub papers-rule : (n : ℕ) (t : List ℕ) (m : Move) → Valid n t → Pass (moveChecks n t m) → (y : ℕ) → y < 2 ^ n → dist n t (moved n t m) y ≡ moveRule n t m y
+-- The papers' count of groups gives that distance, for every tree, accepted
+-- move and partition.
+pub papers-rule : (n : ℕ) (t : List ℕ) (m : Move) → Valid n t
+    → Pass (moveChecks n t m) → (y : ℕ) → y < 2 ^ n
+    → dist n t (moved n t m) y ≡ moveRule n t m y
 papers-rule = moved-dist
 
--- The number that a judgement answers is the number of partitions that are the same.
-pub count-same : (n : ℕ) (t u ys : List ℕ) → zeros (distances n t u ys) ≡ unchanged n t u ys
+-- The number that a judgement answers is the number of partitions that are the
+-- same.
+pub count-same : (n : ℕ) (t u ys : List ℕ)
+    → zeros (distances n t u ys) ≡ unchanged n t u ys
 count-same = zeros-unchanged
 
--- The `saved` number of a move is counted from the distances on the lines above it.
-pub saved-counted : (m : ℕ) (ds : List ℕ) → verdictLines m 1 ds ++ savedLine m (zeros ds) (length ds) ≡ moveLines m ds
+-- The `saved` number of a move is counted from the distances on the lines
+-- above it.
+pub saved-counted : (m : ℕ) (ds : List ℕ)
+    → verdictLines m 1 ds ++ savedLine m (zeros ds)
+    (length ds) ≡ moveLines m ds
 saved-counted = lines-are
 
--- The steps in order, with the program's memory, write the listing of the whole job as defined.
-pub steps-list : (j table parts : List ℕ) (room : ℕ) → Roomy table parts room → run (suc (length j)) j first table parts room ≡ job.listing j
+-- The steps in order, with the program's memory, write the listing of the
+-- whole job as defined.
+pub steps-list : (j table parts : List ℕ) (room : ℕ) → Roomy table parts room
+    → run (suc (length j)) j first table parts room ≡ job.listing j
 steps-list = run-is-listing
 
 -- Every written line is ASCII, with one line feed and no blank at its end.
@@ -154,14 +207,21 @@ plain-lines = listing-plain
 
 -- ==== Demand 3: more species never lower a distance.
 
--- For any two valid trees and Y1 within Y2, the distance over Y1 is at most the distance over Y2.
-pub distance-grows : (n y₁ y₂ : ℕ) → Sub y₁ y₂ → y₂ < 2 ^ n → (t u : List ℕ) → Valid n t → Valid n u → dist n t u y₁ ≤ dist n t u y₂
+-- For any two valid trees and Y1 within Y2, the distance over Y1 is at most
+-- the distance over Y2.
+pub distance-grows : (n y₁ y₂ : ℕ) → Sub y₁ y₂ → y₂ < 2 ^ n → (t u : List ℕ)
+    → Valid n t → Valid n u → dist n t u y₁ ≤ dist n t u y₂
 distance-grows n y₁ y₂ sub bound t u vt vu = dist-mono n y₁ y₂ sub bound t u
 
--- For one tree and one accepted move, more species never turn changed into same.
-pub changed-stays : (n : ℕ) (t : List ℕ) (m : Move) (y₁ y₂ : ℕ) → Sub y₁ y₂ → y₂ < 2 ^ n → dist n t (moved n t m) y₂ ≡ 0 → dist n t (moved n t m) y₁ ≡ 0
+-- For one tree and one accepted move, more species never turn changed into
+-- same.
+pub changed-stays : (n : ℕ) (t : List ℕ) (m : Move) (y₁ y₂ : ℕ) → Sub y₁ y₂
+    → y₂ < 2 ^ n → dist n t (moved n t m) y₂ ≡ 0
+    → dist n t (moved n t m) y₁ ≡ 0
 changed-stays = move-same-mono
 
 -- Nor do they raise the number of partitions that are unchanged.
-pub unchanged-falls : (n : ℕ) (t : List ℕ) (m : Move) (ys zs : List ℕ) → Gains n ys zs → unchanged n t (moved n t m) zs ≤ unchanged n t (moved n t m) ys
+pub unchanged-falls : (n : ℕ) (t : List ℕ) (m : Move) (ys zs : List ℕ)
+    → Gains n ys zs
+    → unchanged n t (moved n t m) zs ≤ unchanged n t (moved n t m) ys
 unchanged-falls = move-unchanged-mono

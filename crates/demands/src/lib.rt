@@ -1,1 +1,2 @@
-// The three demands, as theorems: see proofs/Demands.antt. This crate has no code.
+// The three demands, as theorems: see proofs/Demands.antt. This crate has no
+// code.

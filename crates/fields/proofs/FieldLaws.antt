@@ -1,4 +1,5 @@
--- Which tag is allowed and which length is right at each test of the code; a number in bytes grows byte by byte. Assumes nothing.
+-- Which tag is allowed and which length is right at each test of the code; a
+-- number in bytes grows byte by byte. Assumes nothing.
 use mathlib.Core.Path.{_≡_, refl, ap}
 use mathlib.Core.Bool.{Bool, true, false, _&&_}
 use mathlib.Core.List.{List, [], _∷_, _++_}

@@ -11,7 +11,8 @@ use Rattle.moves.specs.Moves.{Move}
 
 -- ---- a field: one-byte tag, two-byte length (high byte first), content
 
--- The tag and the stated length of the field at an offset, and its content where that length is l.
+-- The tag and the stated length of the field at an offset, and its content
+-- where that length is l.
 abbrev pub tagAt : List ℕ → ℕ → ℕ
 tagAt job at = getD job at 0
 
@@ -31,11 +32,13 @@ numberIn bs = highFirst 0 bs
 
 -- A move is four bytes: kind, then three row numbers.
 abbrev pub moveIn : List ℕ → Move
-moveIn bs = record { kind = getD bs 0 0; first = getD bs 1 0; second = getD bs 2 0; third = getD bs 3 0 }
+moveIn bs =
+    record { kind = getD bs 0 0; first = getD bs 1 0; second = getD bs 2 0; third = getD bs 3 0 }
 
 -- ---- order and length
 
--- The tag is allowed here: n once, first; the table once, second; then 1 to 64 partitions; then moves to the end.
+-- The tag is allowed here: n once, first; the table once, second; then 1 to 64
+-- partitions; then moves to the end.
 unfoldable pub allowed : ℕ → ℕ → ℕ → ℕ → Bool
 allowed at parts moves tag =
     pick (eqb at 0) (eqb tag 1)
@@ -50,6 +53,8 @@ headed job at = leb (at + 3) (length job)
 abbrev pub complete : List ℕ → ℕ → ℕ → Bool
 complete job at l = leb (at + 3 + l) (length job)
 
--- 12: the length of a field that must be l is another, or the field is cut short.
+-- 12: the length of a field that must be l is another, or the field is cut
+-- short.
 abbrev pub lengthChecks : List ℕ → ℕ → ℕ → List Check
-lengthChecks job at l = ((headed job at && eqb (statedAt job at) l && complete job at l) else 12) ∷ []
+lengthChecks job at l =
+    ((headed job at && eqb (statedAt job at) l && complete job at l) else 12) ∷ []

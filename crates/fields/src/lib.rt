@@ -1,4 +1,5 @@
-// The fields of a job: which tag is allowed, whether a length is right, and numbers in bytes.
+// The fields of a job: which tag is allowed, whether a length is right, and
+// numbers in bytes.
 ghost use Prim.Native.Nat.{_+_, _<_, _≤_};
 ghost use mathlib.Core.Path.{_≡_};
 ghost use mathlib.Core.Bool.{_&&_};

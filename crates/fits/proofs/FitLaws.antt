@@ -1,4 +1,5 @@
--- What the test of a move's bytes says at each test of the code. Assumes nothing.
+-- What the test of a move's bytes says at each test of the code. Assumes
+-- nothing.
 use mathlib.Core.Path.{_≡_, sym, ap, _∙_}
 use mathlib.Core.Bool.{Bool, true, false, not, _&&_, _||_, or-false}
 use mathlib.Core.List.{List, [], _∷_}

@@ -1,4 +1,5 @@
--- The four bytes of a move as document 01's move, and what the test of them says.
+-- The four bytes of a move as document 01's move, and what the test of them
+-- says.
 use Prim.Native.Nat.{ℕ}
 use mathlib.Core.Path.{_≡_}
 use mathlib.Core.Bool.{true}
@@ -14,7 +15,8 @@ use Rattle.fits.specs.declared.Fitted.the-variants.{Fits, Refused}
 
 -- The move that the bytes give.
 abbrev pub moveOf : Move → moves.Move
-moveOf m = record { kind = m .kind; first = m .first; second = m .second; third = m .third }
+moveOf m =
+    record { kind = m .kind; first = m .first; second = m .second; third = m .third }
 
 -- The kind and the row numbers are right: 7 and 8 are not given.
 pub record Usable (n : ℕ) (m : moves.Move) : Type 0 where

@@ -94,7 +94,8 @@ fn nni_fits(n: usize, t: &[u8], e: usize, x: usize, y: usize) -> bool
     at_both(t, x, v, y, u)
 }
 
-// Whether row b is a target for the smaller end of row a, and row c for its larger end.
+// Whether row b is a target for the smaller end of row a, and row c for its
+// larger end.
 fn tbr_fits(n: usize, t: &[u8], s: &[u64], a: usize, b: usize, c: usize) -> bool
     requires { ⌜ (Accepted n (now t)) × (Sides n (now t) (now s)) × (a < rows n) × (b < rows n) × (c < rows n) ⌝ }
     ensures { λ r. ⌜ r ≡ (moves_spec.target n (now (t .entry)) a (tree_spec.lo (now (t .entry)) a) b && moves_spec.target n (now (t .entry)) a (tree_spec.hi (now (t .entry)) a) c) ⌝ }

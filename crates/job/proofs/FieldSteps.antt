@@ -1,4 +1,5 @@
--- The step over the next field, by its tag and at a job's end: what the code gives is the outcome. Assumes nothing.
+-- The step over the next field, by its tag and at a job's end: what the code
+-- gives is the outcome. Assumes nothing.
 use mathlib.Core.Path.{_≡_, refl, sym, ap, ap₂, _∙_}
 use mathlib.Core.Bool.{Bool, true, false, _&&_}
 use mathlib.Core.List.{List, [], _∷_, _++_}

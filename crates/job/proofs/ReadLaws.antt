@@ -1,4 +1,5 @@
--- What a step over n, over the table and over a partition tells at each test of the code, and a move in four bytes. Assumes nothing.
+-- What a step over n, over the table and over a partition tells at each test
+-- of the code, and a move in four bytes. Assumes nothing.
 use mathlib.Core.Path.{_≡_, refl, sym, ap, _∙_}
 use mathlib.Core.Bool.{Bool, true, false, _&&_}
 use mathlib.Core.List.{List, [], _∷_, _++_}

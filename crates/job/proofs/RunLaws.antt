@@ -64,7 +64,8 @@ table-kept k xs (at-table e big few t p m) =
 table-kept k xs (past-table l t p) =
     ap (λ (b : Bool). pick b [] (take (2 * rows (k .taxa)) (k .table ++ xs))) (lt-leb (k .at) 4 l) ∙ take-at (k .table) xs (2 * rows (k .taxa)) (t .valid .len)
 
--- Memory that begins with the table and the partitions of what is known holds what is known.
+-- Memory that begins with the table and the partitions of what is known holds
+-- what is known.
 known-kept : (k : Known) (xs ys : List ℕ) → Stage k → knownOf (stateOf k) (k .table ++ xs) (k .parts ++ ys) ≡ k
 known-kept k xs ys s =
     ap₂ (λ (t p : List ℕ). record { at = k .at; taxa = k .taxa; table = t; parts = p; moves = k .moves }) (table-kept k xs s) (take-append-seam (k .parts) ys)
@@ -92,7 +93,8 @@ module _ (job : List ℕ) (short : length job ≤ longest) (room : ℕ) where
     fits-memory : (k′ : Known) (ls : List ℕ) → field job k ≡ next k′ ls → (length (k′ .parts) ≤ length parts) × (length ls ≤ room)
     fits-memory k′ ls h = (omega (arith, sound-next job k s k′ ls h .0 .few-parts, roomy .for-parts), omega (arith, lines-few job k s moves-few k′ ls h, roomy .for-lines))
 
-    -- A step from the state and the memory that hold what is known is the step over the field.
+    -- A step from the state and the memory that hold what is known is the step
+    -- over the field.
     pub step-is-field : knownOf (stateOf k) table parts ≡ k → stepped job (stateOf k) table parts room ≡ field job k
     step-is-field e =
         let f : Known → Outcome = λ x. fitting (k .at) (length parts) room (field job x) in
@@ -158,7 +160,8 @@ run-long job table parts room w =
     let o : Bool → Outcome = λ b. pick b (stop 13 0) (after 0 (stateSaid first (length table) (length parts)) (λ u. fitting 0 (length parts) room (field job (knownOf first table parts)))) in
     ap (λ (b : Bool). linesAfter 0 (o b) (λ k. run (length job) job (stateOf k) (tableThen (o b) table) (partsThen (o b) parts) room)) w
 
--- The steps of the program, from the first state on and with room for any job, write the listing of the job.
+-- The steps of the program, from the first state on and with room for any job,
+-- write the listing of the job.
 pub run-is-listing : (job table parts : List ℕ) (room : ℕ) → Roomy table parts room → run (suc (length job)) job first table parts room ≡ listing job
 run-is-listing job table parts room roomy = go (either (ltb longest (length job)))
   where
@@ -168,7 +171,8 @@ run-is-listing job table parts room roomy = go (either (ltb longest (length job)
 
 -- ---- the closing line
 
--- From what is known on, with a field to read at every byte, the lines end with a closing line.
+-- From what is known on, with a field to read at every byte, the lines end
+-- with a closing line.
 closes-from : (job : List ℕ) (f : ℕ) (k : Known) → Sound job k → length job < k .at + f → Closes (listingFrom f job k)
 unfolding listingFrom linesAfter
 closes-from job zero k s l = absurd (omega (arith, s .within))

@@ -1,4 +1,5 @@
--- Everything known in a job is sound, and no step's lines are more than the lent memory holds. Assumes nothing.
+-- Everything known in a job is sound, and no step's lines are more than the
+-- lent memory holds. Assumes nothing.
 use mathlib.Core.Path.{_≡_, refl, sym, ap, subst}
 use mathlib.Core.Bool.{Bool, true, _&&_}
 use mathlib.Core.List.{List, [], _∷_, _++_}
@@ -45,7 +46,8 @@ past k a b (at-start e) = absurd (a (ap (λ (x : Known). x .at) e))
 past k a b (at-table e big few t p m) = absurd (b e)
 past k a b (past-table l t p) = (l, t, p)
 
--- A test that holds of each number on a list and of one more holds of each with it.
+-- A test that holds of each number on a list and of one more holds of each
+-- with it.
 each-more : (f : ℕ → Bool) (ys : List ℕ) (y : ℕ) → each f ys ≡ true → f y ≡ true → each f (ys ++ y ∷ []) ≡ true
 unfolding each
 each-more f [] y h e = and-both (f y) true e refl
@@ -95,7 +97,8 @@ module _ (job : List ℕ) (k : Known) (s : Sound job k) where
     stage = past-table (omega (arith, past k a b (s .stage) .0)) (moved-accepted (k .taxa) (k .table) m (past k a b (s .stage) .1) p) (past k a b (s .stage) .2);
   }
 
-  -- A step past a field goes on in the job, and what is known after it is sound.
+  -- A step past a field goes on in the job, and what is known after it is
+  -- sound.
   pub sound-next : (k′ : Known) (ls : List ℕ) → field job k ≡ next k′ ls → Sound job k′ × (k .at < k′ .at)
   sound-next k′ ls h = go (turn job k k′ ls h)
     where

@@ -1,4 +1,5 @@
--- The step over one field: what the code gives at each of its returns is the outcome. Assumes nothing.
+-- The step over one field: what the code gives at each of its returns is the
+-- outcome. Assumes nothing.
 use mathlib.Core.Path.{_≡_, refl, sym, ap, ap₂, _∙_}
 use mathlib.Core.Bool.{Bool, true, false, _&&_}
 use mathlib.Core.List.{List, [], _∷_, _++_}

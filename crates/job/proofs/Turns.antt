@@ -1,4 +1,5 @@
--- The fields that a step goes past: which tag, which checks it passed, and what is known after it. Assumes nothing.
+-- The fields that a step goes past: which tag, which checks it passed, and
+-- what is known after it. Assumes nothing.
 use mathlib.Core.Path.{_≡_, refl, ap, sym, _∙_}
 use mathlib.Core.Logic.{_⊎_, inl, inr}
 use mathlib.Core.Bool.{Bool, true, false, _&&_, _||_}

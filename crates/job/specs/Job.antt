@@ -1,13 +1,17 @@
--- A job's fields, the step over one of them, and the listing of a whole job, in document 01's order.
+-- A job's fields, the step over one of them, and the listing of a whole job,
+-- in document 01's order.
 use Prim.Native.Nat.{ℕ, zero, suc, _+_, _*_}
 use mathlib.Core.List.{List, [], _∷_, _++_}
 use lib.Dec.{eqb, ltb, leb}
 use lib.ListN.{length, getD}
 use Rattle.taxa.specs.Sets.{pick}
 use Rattle.tree.specs.Tree.{rows}
-use Rattle.tree.specs.Refusals.{_else_, Said, gives, refuses, judged, countChecks, tableChecks, treeChecks, partitionChecks, partitionsChecks}
+use Rattle.tree.specs.Refusals.{_else_, Said, gives, refuses, judged}
+use Rattle.tree.specs.Refusals.{countChecks, tableChecks, treeChecks}
+use Rattle.tree.specs.Refusals.{partitionChecks, partitionsChecks}
 use Rattle.moves.specs.Moves.{Move, moved, moveChecks}
-use Rattle.fields.specs.Fields.{tagAt, statedAt, contentAt, numberIn, moveIn, allowed, headed, complete, lengthChecks}
+use Rattle.fields.specs.Fields.{tagAt, statedAt, contentAt, numberIn, moveIn}
+use Rattle.fields.specs.Fields.{allowed, headed, complete, lengthChecks}
 use Rattle.text.specs.Lines.{endLine, refusedLine}
 use Rattle.listing.specs.Listing.{linesOf}
 
@@ -26,9 +30,11 @@ nothing = record { at = 0; taxa = 0; table = []; parts = []; moves = 0 }
 
 -- Tag 1: n.
 abbrev pub taxaField : List ℕ → ℕ → Said ℕ
-taxaField job at = judged (lengthChecks job at 1 ++ countChecks (getD job (at + 3) 0)) (getD job (at + 3) 0)
+taxaField job at =
+    judged (lengthChecks job at 1 ++ countChecks (getD job (at + 3) 0)) (getD job (at + 3) 0)
 
--- Tag 2: the table. A wrong stated length is 2, and is judged before the field is tested for being cut short.
+-- Tag 2: the table. A wrong stated length is 2, and is judged before the field
+-- is tested for being cut short.
 abbrev pub tableField : List ℕ → ℕ → ℕ → Said (List ℕ)
 tableField job at n =
     let t = contentAt job at (2 * rows n) in
@@ -40,7 +46,8 @@ partitionField job at n =
     let y = numberIn (contentAt job at 8) in
     judged (lengthChecks job at 8 ++ partitionChecks n y) y
 
--- Tag 4: a move, on the tree the last left. It is a call of its own, with the checks of one; 1 to 6 have passed before.
+-- Tag 4: a move, on the tree the last left. It is a call of its own, with the
+-- checks of one; 1 to 6 have passed before.
 abbrev pub moveField : List ℕ → ℕ → ℕ → List ℕ → List ℕ → Said Move
 moveField job at n t ys =
     let m = moveIn (contentAt job at 4) in
@@ -48,7 +55,8 @@ moveField job at n t ys =
 
 -- ---- the step over one field
 
--- What a field gives: what is known after it and its lines; that the job is over; or a refusal's number and place.
+-- What a field gives: what is known after it and its lines; that the job is
+-- over; or a refusal's number and place.
 pub data Outcome : Type 0 where
   next : Known → List ℕ → Outcome
   over : Outcome
@@ -61,29 +69,37 @@ after at (refuses k) f = stop k at
 
 -- What is known after n, after the table, after a partition and after a move.
 abbrev pub withTaxa : ℕ → ℕ → Known
-withTaxa at n = record { at = at + 4; taxa = n; table = []; parts = []; moves = 0 }
+withTaxa at n =
+    record { at = at + 4; taxa = n; table = []; parts = []; moves = 0 }
 
 abbrev pub withTable : ℕ → ℕ → List ℕ → Known
-withTable at n t = record { at = at + 3 + length t; taxa = n; table = t; parts = []; moves = 0 }
+withTable at n t =
+    record { at = at + 3 + length t; taxa = n; table = t; parts = []; moves = 0 }
 
 abbrev pub withPartition : Known → ℕ → Known
-withPartition k y = record { at = k .at + 11; taxa = k .taxa; table = k .table; parts = k .parts ++ y ∷ []; moves = k .moves }
+withPartition k y =
+    record { at = k .at + 11; taxa = k .taxa; table = k .table; parts = k .parts ++ y ∷ []; moves = k .moves }
 
 abbrev pub withMove : Known → Move → Known
-withMove k m = record { at = k .at + 7; taxa = k .taxa; table = moved (k .taxa) (k .table) m; parts = k .parts; moves = k .moves + 1 }
+withMove k m =
+    record { at = k .at + 7; taxa = k .taxa; table = moved (k .taxa) (k .table) m; parts = k .parts; moves = k .moves + 1 }
 
--- The step over a field of each tag; keptStep is that over a table of the right length.
+-- The step over a field of each tag; keptStep is that over a table of the
+-- right length.
 abbrev pub taxaStep : List ℕ → ℕ → Outcome
 taxaStep job at = after at (taxaField job at) (λ n. next (withTaxa at n) [])
 
 abbrev pub keptStep : ℕ → ℕ → List ℕ → Outcome
-keptStep at n t = after at (judged (tableChecks n t) t) (λ u. next (withTable at n u) [])
+keptStep at n t =
+    after at (judged (tableChecks n t) t) (λ u. next (withTable at n u) [])
 
 abbrev pub tableStep : List ℕ → ℕ → ℕ → Outcome
-tableStep job at n = after at (tableField job at n) (λ t. next (withTable at n t) [])
+tableStep job at n =
+    after at (tableField job at n) (λ t. next (withTable at n t) [])
 
 abbrev pub partitionStep : List ℕ → Known → Outcome
-partitionStep job k = after (k .at) (partitionField job (k .at) (k .taxa)) (λ y. next (withPartition k y) [])
+partitionStep job k =
+    after (k .at) (partitionField job (k .at) (k .taxa)) (λ y. next (withPartition k y) [])
 
 abbrev pub moveStep : List ℕ → Known → Outcome
 moveStep job k =
@@ -94,7 +110,8 @@ unfoldable pub fieldOf : List ℕ → Known → ℕ → Outcome
 fieldOf job k tag =
     pick (eqb tag 1) (taxaStep job (k .at)) (pick (eqb tag 2) (tableStep job (k .at) (k .taxa)) (pick (eqb tag 3) (partitionStep job k) (moveStep job k)))
 
--- The next field: tag allowed here, length and completeness, then content. A job that ends too early between fields is 12 at the job's length.
+-- The next field: tag allowed here, length and completeness, then content. A
+-- job that ends too early between fields is 12 at the job's length.
 unfoldable pub field : List ℕ → Known → Outcome
 field job k =
     pick (leb (length job) (k .at)) (pick (eqb (length (k .parts)) 0) (stop 12 (length job)) over)
@@ -115,8 +132,10 @@ linesAfter moves (stop r p) more = refusedLine r p
 -- The lines from what is known on, within f fields.
 unfoldable pub listingFrom : ℕ → List ℕ → Known → List ℕ
 listingFrom zero job k = []
-listingFrom (suc f) job k = linesAfter (k .moves) (field job k) (listingFrom f job)
+listingFrom (suc f) job k =
+    linesAfter (k .moves) (field job k) (listingFrom f job)
 
 -- 13 is checked first, with place 0; then field by field.
 unfoldable pub listing : List ℕ → List ℕ
-listing job = pick (ltb longest (length job)) (refusedLine 13 0) (listingFrom (suc (length job)) job nothing)
+listing job =
+    pick (ltb longest (length job)) (refusedLine 13 0) (listingFrom (suc (length job)) job nothing)

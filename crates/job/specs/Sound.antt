@@ -13,10 +13,13 @@ use Rattle.job.specs.Job.{Known, nothing}
 -- Before n, between n and the table, and after the table.
 pub data Stage (k : Known) : Type 0 where
   at-start : k ≡ nothing → Stage k
-  at-table : k .at ≡ 4 → 4 ≤ k .taxa → k .taxa ≤ most → k .table ≡ [] → k .parts ≡ [] → k .moves ≡ 0 → Stage k
-  past-table : 4 < k .at → Accepted (k .taxa) (k .table) → each (λ y. ltb y (2 ^ k .taxa)) (k .parts) ≡ true → Stage k
+  at-table : k .at ≡ 4 → 4 ≤ k .taxa → k .taxa ≤ most → k .table ≡ []
+      → k .parts ≡ [] → k .moves ≡ 0 → Stage k
+  past-table : 4 < k .at → Accepted (k .taxa) (k .table)
+      → each (λ y. ltb y (2 ^ k .taxa)) (k .parts) ≡ true → Stage k
 
--- What is known lies within the job, with as many moves as their bytes allow and no more partitions than the most.
+-- What is known lies within the job, with as many moves as their bytes allow
+-- and no more partitions than the most.
 pub record Sound (job : List ℕ) (k : Known) : Type 0 where
   pub within : k .at ≤ length job
   pub few-moves : 7 * k .moves ≤ k .at

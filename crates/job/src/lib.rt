@@ -21,7 +21,8 @@ use table::Refusal;
 // The most bytes in a job.
 const LONGEST: usize = 65535;
 
-// How far a job was read: the offset of the next field, the number of taxa, how many partitions and how many moves were read.
+// How far a job was read: the offset of the next field, the number of taxa,
+// how many partitions and how many moves were read.
 #[repr(C)]
 pub struct State {
     pub at: usize,
@@ -30,7 +31,8 @@ pub struct State {
     pub moves: u64,
 }
 
-// The answer of a step: the next state and how many bytes of lines were written; that the job is over; or a refusal and its place.
+// The answer of a step: the next state and how many bytes of lines were
+// written; that the job is over; or a refusal and its place.
 pub enum Stepped {
     Next { state: State, wrote: usize },
     Ended,
@@ -84,7 +86,8 @@ fn read_taxa(job: &[u8], at: usize) -> Stepped
     }
 }
 
-// Keeps the table t of the field at an offset where it is a tree: refusals 3 to 5.
+// Keeps the table t of the field at an offset where it is a tree: refusals 3
+// to 5.
 fn keep_table(at: usize, n: usize, t: &[u8], table: &mut [u8]) -> Stepped
     requires { ⌜ (at ≤ longest) × (4 ≤ n) × (n ≤ most) × (length (now t) ≡ 2 * rows n) × (2 * rows n ≤ length (now table)) ⌝ }
     ensures { λ r. ⌜ (steppedSays r ≡ toldOf (keptStep at n (now (t .entry)))) × (now (table .exit) ≡ tableThen (keptStep at n (now (t .entry))) (now (table .entry))) ⌝ }
@@ -241,7 +244,8 @@ fn read_field(job: &[u8], s: State, table: &mut [u8], parts: &mut [u64], out: &m
     read_move(job, s, table, parts, out)
 }
 
-// The next field of a state that a job can have: its end, and whether its tag is allowed.
+// The next field of a state that a job can have: its end, and whether its tag
+// is allowed.
 fn read_next(job: &[u8], s: State, table: &mut [u8], parts: &mut [u64], out: &mut [u8]) -> Stepped
     requires { ⌜ (length (now job) ≤ longest) × (Held s (now table) (now parts)) ⌝ }
     ensures { λ r. ⌜ Gives (fitting (s .at) (length (now (parts .entry))) (length (now (out .entry))) (field (now (job .entry)) (knownOf s (now (table .entry)) (now (parts .entry))))) r (now (table .entry)) (now (table .exit)) (now (parts .entry)) (now (parts .exit)) (now (out .entry)) (now (out .exit)) ⌝ }
@@ -314,7 +318,9 @@ fn state_right(s: State, table: usize, parts: usize) -> Fitted
     Fitted::Fits
 }
 
-// The step over one field of a job, from the state the last step gave. The table and the partitions read so far are in the lent memory; a move's lines are written at the start of out.
+// The step over one field of a job, from the state the last step gave. The
+// table and the partitions read so far are in the lent memory; a move's lines
+// are written at the start of out.
 pub fn step(job: &[u8], s: State, table: &mut [u8], parts: &mut [u64], out: &mut [u8]) -> Stepped
     ensures { λ r. ⌜ Gives (stepped (now (job .entry)) s (now (table .entry)) (now (parts .entry)) (length (now (out .entry)))) r (now (table .entry)) (now (table .exit)) (now (parts .entry)) (now (parts .exit)) (now (out .entry)) (now (out .exit)) ⌝ }
 {

@@ -1,4 +1,5 @@
-// Jobs of document 01, run: for each a line of its own, then the job's listing.
+// Jobs of document 01, run: for each a line of its own, then the job's
+// listing.
 ghost use Prim.Native.Nat.{_≤_};
 ghost use lib.ListN.{length};
 use job::Stepped;
@@ -82,7 +83,8 @@ fn feeds(lines: &[u8]) -> u64 {
     k
 }
 
-// Writes how many lines the moves of a job have, then the lines of its last move.
+// Writes how many lines the moves of a job have, then the lines of its last
+// move.
 fn tally(lines: u64, out: &[u8], wrote: usize)
     requires { ⌜ wrote ≤ length (now out) ⌝ }
 {
@@ -91,7 +93,8 @@ fn tally(lines: u64, out: &[u8], wrote: usize)
     writer::put(out, wrote);
 }
 
-// The same as the listing, but of the lines of moves only their number and the last move's, since a long job has thousands.
+// The same as the listing, but of the lines of moves only their number and the
+// last move's, since a long job has thousands.
 fn count(input: &[u8]) {
     let mut tree = [0u8; 250];
     let mut parts = [0u64; 64];
@@ -311,7 +314,8 @@ fn tables() {
     run(23, b"an unreached node", &j, l);
 }
 
-// Refusal 2 by the length's high byte, and where the two bytes of the length are not all there.
+// Refusal 2 by the length's high byte, and where the two bytes of the length
+// are not all there.
 fn lengths() {
     let mut j = DOCUMENT;
     j[5] = 1;
@@ -422,7 +426,8 @@ fn longest() {
     run_long(59, b"the same with its last byte cut", &j, 65534);
 }
 
-// The largest tree and the most partitions, with the longest way that a move can go.
+// The largest tree and the most partitions, with the longest way that a move
+// can go.
 fn largest() {
     let mut j = [0u8; 1024];
     let t = samples::along();

@@ -1,4 +1,5 @@
--- The groups that the code lists give the distance of the trees before and after the move. Assumes nothing.
+-- The groups that the code lists give the distance of the trees before and
+-- after the move. Assumes nothing.
 use mathlib.Core.Path.{_≡_, sym, ap, ap₂, _∙_}
 use mathlib.Core.Bool.{true}
 use mathlib.Core.List.{List, _++_}

@@ -1,4 +1,5 @@
--- What a move that fits tells of its rows, kind by kind, and the groups on its two sides. Assumes nothing.
+-- What a move that fits tells of its rows, kind by kind, and the groups on its
+-- two sides. Assumes nothing.
 use mathlib.Core.Path.{_≡_, sym, ap, _∙_}
 use mathlib.Core.Bool.{true, false≢true}
 use mathlib.Core.List.{List, _++_}
@@ -121,7 +122,8 @@ module _ {n : ℕ} {t near s : List ℕ} {m : Move} (F : Fit n t near s m) where
     second-two =
         sym (ap length second-1) ∙ stayed-two n t (m .first) (hi t (m .first)) (omega (arith, inner, F .good .valid .order (m .first) first-row .0))
 
-  -- the groups listed at the start of two lent lists are few, and of an NNI two on each side
+  -- the groups listed at the start of two lent lists are few, and of an NNI
+  -- two on each side
   pub listed-few : {gs gs′ hs hs′ : List ℕ} {k j : ℕ} → Listed room (firstGroups n t m) gs k gs′ → Listed room (secondGroups n t m) hs j hs′
       → Few (eqb (m .kind) 1) (take k gs′) (take j hs′)
   listed-few g h = record {

@@ -1,4 +1,5 @@
--- What the three calls promise, for every input: the answer, and the state of the lent table or list.
+-- What the three calls promise, for every input: the answer, and the state of
+-- the lent table or list.
 use Prim.Native.Nat.{ℕ}
 use mathlib.Core.Path.{_≡_}
 use mathlib.Core.List.{List, _++_}
@@ -24,7 +25,8 @@ use Rattle.judge.specs.declared.Verdict.the-variants as verdict
 
 -- ---- a move alone
 
--- What each answer says, and what the call says: that it is done, or a refusal.
+-- What each answer says, and what the call says: that it is done, or a
+-- refusal.
 abbrev pub moveSays : Moved → Said (Unit {0})
 moveSays moved.Done = gives tt
 moveSays (moved.Refused r) = refuses (numberOf r)
@@ -44,7 +46,8 @@ pub record Applies (n : ℕ) (t : List ℕ) (m : Move) (r : Moved) (t′ : List 
 
 -- ---- a move judged for a list of partitions
 
--- What each answer says, and what the call says: how many of the distances are 0.
+-- What each answer says, and what the call says: how many of the distances are
+-- 0.
 abbrev pub judgeSays : Judged → Said ℕ
 judgeSays (judged.Same k) = gives k
 judgeSays (judged.Refused r) = refuses (numberOf r)
@@ -68,19 +71,23 @@ pub record JudgesOne (n : ℕ) (t : List ℕ) (y : ℕ) (m : Move) (r : Verdict)
 
 -- ---- between the functions
 
--- A tree with its rows at each node and its sides, and a move that no check refuses.
+-- A tree with its rows at each node and its sides, and a move that no check
+-- refuses.
 pub record Fit (n : ℕ) (t near s : List ℕ) (m : Move) : Type 0 where
   pub good : Accepted n t
   pub rows : Near n t near
   pub sides : Sides n t s
   pub fits : Pass (moveChecks n t m)
 
--- out′ is out with the distances ds in place of its first numbers, and r is how many of them are 0.
+-- out′ is out with the distances ds in place of its first numbers, and r is
+-- how many of them are 0.
 pub record Told (ds out : List ℕ) (r : ℕ) (out′ : List ℕ) : Type 0 where
   pub count : r ≡ zeros ds
   pub memory : out′ ≡ ds ++ drop (length ds) out
 
--- The groups on the two sides of a move: of an NNI those at the two ends of e; of an SPR those on the way and those of the part that is moved; of a TBR those on the two sides of a.
+-- The groups on the two sides of a move: of an NNI those at the two ends of e;
+-- of an SPR those on the way and those of the part that is moved; of a TBR
+-- those on the two sides of a.
 abbrev pub firstGroups : ℕ → List ℕ → Move → List ℕ
 firstGroups n t m =
     pick (eqb (m .kind) 1) (stayed n t (m .first) (lo t (m .first)))

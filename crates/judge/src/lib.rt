@@ -1,4 +1,5 @@
-// The calls about a move: applied to a table, and judged for partitions before anything is scored.
+// The calls about a move: applied to a table, and judged for partitions before
+// anything is scored.
 ghost use Prim.Native.Nat.{_^_, _<_, _≤_};
 ghost use mathlib.Core.Path.{_≡_};
 ghost use mathlib.Core.Bool.{true, _&&_};
@@ -35,7 +36,8 @@ pub enum Judged {
     Refused(Refusal),
 }
 
-// The answer of a move judged for one partition: its distance, 0 where it is the same.
+// The answer of a move judged for one partition: its distance, 0 where it is
+// the same.
 pub enum Verdict {
     Distance(u64),
     Refused(Refusal),
@@ -144,7 +146,8 @@ fn second_groups(
     walks::way(n, t, near, s, a, v, c, out)
 }
 
-// Writes the distance over each partition at the start of out; how many are the same.
+// Writes the distance over each partition at the start of out; how many are
+// the same.
 pub fn judge_groups(
     n: usize,
     t: &[u8],
@@ -164,7 +167,8 @@ pub fn judge_groups(
     rules::distance_each(m.kind == 1, &gs[..k], &hs[..j], ys, out)
 }
 
-// Whether a list of partitions has one at least and not too many, and none names a taxon n or above: their union is tested once.
+// Whether a list of partitions has one at least and not too many, and none
+// names a taxon n or above: their union is tested once.
 pub fn partitions_right(n: usize, ys: &[u64]) -> bool
     requires { ⌜ (4 ≤ n) × (n ≤ most) ⌝ }
     ensures { λ b. ⌜ b ≡ (leb 1 (length (now (ys .entry))) && leb (length (now (ys .entry))) mostPartitions && each (λ y. ltb y (2 ^ n)) (now (ys .entry))) ⌝ }
@@ -184,7 +188,8 @@ pub fn partitions_right(n: usize, ys: &[u64]) -> bool
     taxa::within(all, n)
 }
 
-// The judgement of a tree's move that fits, where the partitions are right: refusal 11.
+// The judgement of a tree's move that fits, where the partitions are right:
+// refusal 11.
 fn judge_fit(
     n: usize,
     t: &[u8],
@@ -226,7 +231,8 @@ fn judge_tree(
     }
 }
 
-// Judges a move for a list of partitions, the distance of each written into out; the table is not changed. Refusals 1 to 11.
+// Judges a move for a list of partitions, the distance of each written into
+// out; the table is not changed. Refusals 1 to 11.
 pub fn judge_move(n: usize, t: &[u8], ys: &[u64], m: Move, out: &mut [u64]) -> Judged
     ensures { λ r. ⌜ JudgesAll n (now (t .entry)) (now (ys .entry)) (moveOf m) (now (out .entry)) r (now (out .exit)) ⌝ }
 {

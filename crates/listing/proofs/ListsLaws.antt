@@ -1,4 +1,5 @@
--- What the call for a move's lines says at each test of the code. Assumes nothing.
+-- What the call for a move's lines says at each test of the code. Assumes
+-- nothing.
 use mathlib.Core.Path.{_≡_, sym, ap, _∙_}
 use mathlib.Core.Bool.{Bool, true, false, _&&_}
 use mathlib.Core.List.{List, [], _++_}

@@ -4,7 +4,8 @@ use mathlib.Core.Path.{_≡_}
 use mathlib.Core.List.{List, [], _∷_, _++_}
 use lib.ListN.{length}
 use Rattle.tree.specs.Splits.{distances}
-use Rattle.tree.specs.Refusals.{Said, gives, refuses, judged, treeChecks, partitionsChecks, roomChecks}
+use Rattle.tree.specs.Refusals.{Said, gives, refuses, judged, treeChecks}
+use Rattle.tree.specs.Refusals.{partitionsChecks, roomChecks}
 use Rattle.table.specs.Says.{numberOf}
 use Rattle.moves.specs.Moves.{Move, moved, moveChecks}
 use Rattle.rules.specs.Each.{zeros}
@@ -17,7 +18,8 @@ unfoldable pub verdictLines : ℕ → ℕ → List ℕ → List ℕ
 verdictLines m p [] = []
 verdictLines m p (d ∷ ds) = verdictLine m p d ++ verdictLines m (p + 1) ds
 
--- One move's lines, under the move number m: those for partition 1, 2, .., then `m saved s t`, s counted from the distances above.
+-- One move's lines, under the move number m: those for partition 1, 2, ..,
+-- then `m saved s t`, s counted from the distances above.
 unfoldable pub moveLines : ℕ → List ℕ → List ℕ
 moveLines m ds = verdictLines m 1 ds ++ savedLine m (zeros ds) (length ds)
 
@@ -25,7 +27,8 @@ moveLines m ds = verdictLines m 1 ds ++ savedLine m (zeros ds) (length ds)
 abbrev pub linesOf : ℕ → List ℕ → List ℕ → Move → ℕ → List ℕ
 linesOf n t ys m k = moveLines k (distances n t (moved n t m) ys)
 
--- What the call says: the lines. Refusals 1 to 11; 11 when they do not all fit or the place is past the end.
+-- What the call says: the lines. Refusals 1 to 11; 11 when they do not all fit
+-- or the place is past the end.
 abbrev pub linesSaid : ℕ → List ℕ → List ℕ → Move → ℕ → ℕ → ℕ → Said (List ℕ)
 linesSaid n t ys m k room place =
     judged (treeChecks n t ++ partitionsChecks n ys ++ moveChecks n t m ++ roomChecks (place + length (linesOf n t ys m k)) room) (linesOf n t ys m k)
@@ -39,7 +42,8 @@ abbrev pub placeAfter : ℕ → Said (List ℕ) → Said ℕ
 placeAfter place (gives ls) = gives (place + length ls)
 placeAfter place (refuses k) = refuses k
 
--- The lent table and output afterwards: moved and written, or both as they were.
+-- The lent table and output afterwards: moved and written, or both as they
+-- were.
 abbrev pub tableThen : Said (List ℕ) → List ℕ → List ℕ → List ℕ
 tableThen (gives ls) u t = u
 tableThen (refuses k) u t = t
@@ -50,11 +54,17 @@ outThen (refuses k) place out = out
 
 -- The lines ls are written and the table becomes u, where the lines fit.
 pub record Puts (ls t u out : List ℕ) (place : ℕ) (r : Lines) (t′ out′ : List ℕ) : Type 0 where
-  pub says : linesSays r ≡ placeAfter place (judged (roomChecks (place + length ls) (length out)) ls)
-  pub table : t′ ≡ tableThen (judged (roomChecks (place + length ls) (length out)) ls) u t
-  pub memory : out′ ≡ outThen (judged (roomChecks (place + length ls) (length out)) ls) place out
+  pub says :
+      linesSays r ≡ placeAfter place (judged (roomChecks (place + length ls) (length out)) ls)
+  pub table :
+      t′ ≡ tableThen (judged (roomChecks (place + length ls) (length out)) ls) u t
+  pub memory :
+      out′ ≡ outThen (judged (roomChecks (place + length ls) (length out)) ls) place out
 
 pub record Lists (n : ℕ) (t ys : List ℕ) (m : Move) (k : ℕ) (out : List ℕ) (place : ℕ) (r : Lines) (t′ out′ : List ℕ) : Type 0 where
-  pub says : linesSays r ≡ placeAfter place (linesSaid n t ys m k (length out) place)
-  pub table : t′ ≡ tableThen (linesSaid n t ys m k (length out) place) (moved n t m) t
-  pub memory : out′ ≡ outThen (linesSaid n t ys m k (length out) place) place out
+  pub says :
+      linesSays r ≡ placeAfter place (linesSaid n t ys m k (length out) place)
+  pub table : t′ ≡ tableThen (linesSaid n t ys m k (length out) place)
+      (moved n t m) t
+  pub memory :
+      out′ ≡ outThen (linesSaid n t ys m k (length out) place) place out

@@ -1,4 +1,5 @@
-// One move's lines, written into a lent output from a place on, and the move made on the lent table.
+// One move's lines, written into a lent output from a place on, and the move
+// made on the lent table.
 ghost use Prim.Native.Nat.{_+_, _*_, _≤_};
 ghost use mathlib.Core.Path.{_≡_};
 ghost use lib.Dec.{leb};
@@ -99,7 +100,8 @@ fn move_where(fits: bool, n: usize, t: &mut [u8], near: &[u8], s: &[u64], m: Mov
     }
 }
 
-// Writes the lines of move m from the place on and rewrites its rows, where the lines fit: refusal 11.
+// Writes the lines of move m from the place on and rewrites its rows, where
+// the lines fit: refusal 11.
 fn put_where_room(
     n: usize,
     t: &mut [u8],
@@ -125,7 +127,8 @@ fn put_where_room(
     Lines::To(place + k)
 }
 
-// The lines of a tree's move that fits, where the partitions are right: refusal 11.
+// The lines of a tree's move that fits, where the partitions are right:
+// refusal 11.
 fn list_fit(
     n: usize,
     t: &mut [u8],
@@ -170,7 +173,8 @@ fn list_tree(
     }
 }
 
-// Makes a move on a table and writes its lines, under the number stated, into out from the place on. Refusals 1 to 11.
+// Makes a move on a table and writes its lines, under the number stated, into
+// out from the place on. Refusals 1 to 11.
 pub fn list_move(
     n: usize,
     t: &mut [u8],

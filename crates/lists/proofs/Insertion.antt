@@ -1,4 +1,5 @@
--- A number is put in its place of a list by opening a place and writing it there. Assumes nothing.
+-- A number is put in its place of a list by opening a place and writing it
+-- there. Assumes nothing.
 use mathlib.Core.Path.{_≡_, refl, ap, sym, _∙_}
 use mathlib.Core.List.{List, [], _∷_, _++_, append-assoc}
 use mathlib.Core.Bool.{Bool, true, false}

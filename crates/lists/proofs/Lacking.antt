@@ -1,4 +1,5 @@
--- What a list lacks of another, number by number of the two from places i and j on. Assumes nothing.
+-- What a list lacks of another, number by number of the two from places i and
+-- j on. Assumes nothing.
 use mathlib.Core.Path.{_≡_, refl, ap, sym, _∙_}
 use mathlib.Core.Logic.{_⊎_, inl, inr}
 use mathlib.Core.List.{List, [], _∷_}

@@ -12,4 +12,5 @@ lead x (y ∷ ys) = pick (ltb y x) (suc (lead x ys)) 0
 
 -- l with those from i up to len one place up
 unfoldable pub gapped : List ℕ → ℕ → ℕ → List ℕ
-gapped l i len = take (i + 1) l ++ (take (len - i) (drop i l) ++ drop (len + 1) l)
+gapped l i len =
+    take (i + 1) l ++ (take (len - i) (drop i l) ++ drop (len + 1) l)

@@ -1,4 +1,5 @@
-// Ascending lists of numbers in the caller's slices: a number put in, and what one list lacks of another.
+// Ascending lists of numbers in the caller's slices: a number put in, and what
+// one list lacks of another.
 ghost use mathlib.Core.Path.{_≡_};
 ghost use mathlib.Core.List.{_++_};
 ghost use Prim.Native.Nat.{_<_, _≤_};
@@ -35,7 +36,8 @@ fn open_gap(out: &mut [u64], i: usize, len: usize)
     }
 }
 
-// Puts x in its place of the first len numbers of out, which ascend, once; the new count.
+// Puts x in its place of the first len numbers of out, which ascend, once; the
+// new count.
 pub fn insert(out: &mut [u64], len: usize, x: u64) -> usize
     requires { ⌜ len ≤ length (now out) ⌝ }
     requires { ⌜ length (lists_spec.insert x (take len (now out))) ≤ length (now out) ⌝ }

@@ -1,4 +1,5 @@
-// Cases of document 01 about moves, run: a line for each, the number that matters first.
+// Cases of document 01 about moves, run: a line for each, the number that
+// matters first.
 ghost use Prim.Native.Nat.{_≤_};
 use fits::Move;
 use judge::Judged;
@@ -109,7 +110,8 @@ fn one(n: usize, t: &[u8], y: u64, m: Move, words: &[u8]) {
     line(words);
 }
 
-// A line for a move judged for a list: how many are the same and the whole lent list, or the refusal and whether the list is as its copy.
+// A line for a move judged for a list: how many are the same and the whole
+// lent list, or the refusal and whether the list is as its copy.
 fn each(n: usize, t: &[u8], ys: &[u64], m: Move, copy: &[u64], out: &mut [u64], words: &[u8]) {
     let j = judge::judge_move(n, t, ys, m, out);
     match j {
@@ -127,7 +129,8 @@ fn each(n: usize, t: &[u8], ys: &[u64], m: Move, copy: &[u64], out: &mut [u64], 
     line(words);
 }
 
-// The same for tree S, with room for so many numbers at the start of a longer list.
+// The same for tree S, with room for so many numbers at the start of a longer
+// list.
 fn each_s(ys: &[u64], m: Move, room: usize, words: &[u8])
     requires { ⌜ room ≤ 65 ⌝ }
 {
@@ -136,7 +139,8 @@ fn each_s(ys: &[u64], m: Move, room: usize, words: &[u8])
     each(6, &S, ys, m, &copy[..room], &mut out[..room], words);
 }
 
-// A line for a move applied: the rows after it, or the refusal and whether the table is as its copy.
+// A line for a move applied: the rows after it, or the refusal and whether the
+// table is as its copy.
 fn apply(n: usize, copy: &[u8], t: &mut [u8], m: Move, words: &[u8]) {
     let c = judge::apply_move(n, t, m);
     match c {
@@ -180,7 +184,8 @@ fn alone(n: usize, t: &[u8], y: u64, m: Move) -> u64 {
     }
 }
 
-// A line for a refused move: the number that each of the three calls says, then whether the table and the list are as their copies.
+// A line for a refused move: the number that each of the three calls says,
+// then whether the table and the list are as their copies.
 fn refuse(n: usize, copy: &[u8], t: &mut [u8], m: Move, words: &[u8]) {
     let mut out = [MARK; 2];
     say(applied(n, t, m));
@@ -221,7 +226,8 @@ fn p_rows() {
     one(6, &S, 15, tbr(4, 0, 7), b"P11, the same over 0, 1, 2, 3");
 }
 
-// The same rows, the partitions of a move judged as one list, with room for them and with room to spare.
+// The same rows, the partitions of a move judged as one list, with room for
+// them and with room to spare.
 fn p_lists() {
     let nnis = [63, 29, 51, 0];
     let sprs = [63, 15, 7, 62];
@@ -241,7 +247,8 @@ fn after(m: Move, words: &[u8]) {
     apply(6, &S, &mut t, m, words);
 }
 
-// The whole tables after the moves of document 01, and after moves that must give the same tables.
+// The whole tables after the moves of document 01, and after moves that must
+// give the same tables.
 fn tables() {
     after(nni(4, 3, 5), b"after NNI 4,3,5");
     after(nni(4, 5, 3), b"after NNI 4,5,3, the other row named first");
@@ -263,7 +270,8 @@ fn present(t: &[u8]) {
     one(6, t, 63, spr(0, 1), b"or SPR 0,1 over all");
 }
 
-// Moves one after the other on one table, since the groups come from the present tree.
+// Moves one after the other on one table, since the groups come from the
+// present tree.
 fn in_turn() {
     let mut t = S;
     apply(6, &S, &mut t, spr(0, 7), b"first SPR 0,7");

@@ -1,5 +1,7 @@
--- One side of a row a that is cut, its end v and the target b there: the groups make up the side; an end whose target touches it has two groups
--- at most; an end whose target does not touch it can be moved onto it. Assumes nothing.
+-- One side of a row a that is cut, its end v and the target b there: the
+-- groups make up the side; an end whose target touches it has two groups
+-- at most; an end whose target does not touch it can be moved onto it. Assumes
+-- nothing.
 use mathlib.Core.Path.{_≡_, refl, sym, ap, _∙_, subst}
 use mathlib.Core.Logic.{_⊎_, inl, inr}
 use mathlib.Core.Bool.{Bool, true, false, not, _&&_}

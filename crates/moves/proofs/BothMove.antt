@@ -1,4 +1,5 @@
--- Both ends of a row a move, one after the other: the second move fits the table after the first, the way of its end is the way before the first,
+-- Both ends of a row a move, one after the other: the second move fits the
+-- table after the first, the way of its end is the way before the first,
 -- and the distance is the papers' rule. Assumes nothing.
 use mathlib.Core.Path.{_≡_, refl, sym, ap, ap₂, _∙_, subst}
 use mathlib.Core.Logic.{inl}
@@ -25,7 +26,8 @@ use Rattle.moves.proofs.SprDist.{found, way-chain}
 use Rattle.moves.proofs.Covers.{Covers, side-met, rule-two}
 use Rattle.moves.proofs.Aims.{way-covers}
 
--- row a's end p has moved onto b, which makes t′ of t; its other end q fits row c in t
+-- row a's end p has moved onto b, which makes t′ of t; its other end q fits
+-- row c in t
 module _ {n : ℕ} {t t′ : List ℕ} {a w h b F N X p q r s u z : ℕ} (k : Graft n t t′ a w h b F N X p q r s u z (part n t a q)) {c : ℕ} (k₂ : EndFits n t q a c) where
   a-lt : a < rows n
   a-lt = k .fork .e-lt

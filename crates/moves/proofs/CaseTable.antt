@@ -20,7 +20,8 @@ tree-S = accepted-iff 6 treeS .0 said
     said : treeSaid 6 treeS ≡ gives tt
     said = refl
 
--- each of the eleven moves passes its checks, and has the distance of the table both by the split sets and by the papers' rule
+-- each of the eleven moves passes its checks, and has the distance of the
+-- table both by the split sets and by the papers' rule
 pub table : allHold cases ≡ true
 unfolding trailingZeros has add less some lowest far others round rounds part mem insert lacks side meets flips split splitsTo splits dist put nni nniFits endWith moveEnd spr stayOr tbr target moved kindRight rowsRight fits anyMoves beyond leads walk groups stayed met rule nniRule sprRule tbrRule moveRule treeS cases holds allHold
 table = refl

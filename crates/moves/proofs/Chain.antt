@@ -1,4 +1,5 @@
--- Two lists of splits that differ along one chain of groups, and the same chain from its other end. No table here. Assumes nothing.
+-- Two lists of splits that differ along one chain of groups, and the same
+-- chain from its other end. No table here. Assumes nothing.
 use mathlib.Core.Path.{_≡_, sym, ap, ap₂, _∙_, subst}
 use mathlib.Core.Logic.{_⊎_, inl, inr}
 use mathlib.Core.Bool.{Bool, true, false, not, _&&_, _||_, true≢false, false≢true, or-true}
@@ -33,8 +34,10 @@ with-in w ls i h = has-with w ls i ∙ ap (λ (x : Bool). x || any i ls) h
 pub with-any : (w : ℕ) (ls : List ℕ) (i : ℕ) → any i ls ≡ true → has (with-w w ls) i ≡ true
 with-any w ls i h = has-with w ls i ∙ ap (λ (x : Bool). has w i || x) h ∙ or-true (has w i)
 
--- A chain of groups gs, which on y are all that is not in w, each taxon in one of them. Two ascending lists: xs has the splits of w with the first
--- groups, ys those of w with the last, and both have those of the single groups. What else is on one list is on the other. No two splits of one
+-- A chain of groups gs, which on y are all that is not in w, each taxon in one
+-- of them. Two ascending lists: xs has the splits of w with the first
+-- groups, ys those of w with the last, and both have those of the single
+-- groups. What else is on one list is on the other. No two splits of one
 -- list cross.
 pub record Chain (n y w : ℕ) (gs xs ys : List ℕ) : Type 0 where
   pub bound : y < 2 ^ n

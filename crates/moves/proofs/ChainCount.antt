@@ -1,4 +1,5 @@
--- How many splits one list lacks of the other along a chain: two fewer than the groups met, where w is met too. No table here.
+-- How many splits one list lacks of the other along a chain: two fewer than
+-- the groups met, where w is met too. No table here.
 -- Assumes nothing.
 use mathlib.Core.Path.{_≡_, refl, sym, ap, ap₂, _∙_, subst}
 use mathlib.Core.Logic.{_⊎_, inl, inr}
@@ -64,7 +65,8 @@ module _ {n y w : ℕ} {gs xs ys : List ℕ} (k : Chain n y w gs xs ys) where
           same : x ≡ split n y (with-w w (v .1))
           same = v .3 ∙ split-eq n y (with-w w (v .0)) (with-w w (v .1)) (k .bound) true at
 
-  -- x is the split of w with the first groups cs, behind which two are met; j is a member of y in cs and not in ls
+  -- x is the split of w with the first groups cs, behind which two are met; j
+  -- is a member of y in cs and not in ls
   abbrev pub Lost : ℕ → List ℕ → Type 0
   Lost x ls =
       (cs ds : List ℕ) × (gs ≡ cs ++ ds) × (x ≡ split n y (with-w w cs)) × (2 ≤ met y ds)
@@ -104,7 +106,8 @@ module _ {n y w : ℕ} {gs xs ys : List ℕ} (k : Chain n y w gs xs ys) where
 
   -- with a member of w at hand
   module _ (mw : Met y w) where
-    -- no split is on the list twice: two of them part w and a taxon j otherwise
+    -- no split is on the list twice: two of them part w and a taxon j
+    -- otherwise
     lost-distinct : (rest ls : List ℕ) → gs ≡ ls ++ rest → Distinct (lost n y w ls rest)
     unfolding lost
     lost-distinct [] ls e = tt

@@ -1,4 +1,5 @@
--- The groups on one side of a row make up that side, so the side is met where one of them is; and the arithmetic of the papers' rule.
+-- The groups on one side of a row make up that side, so the side is met where
+-- one of them is; and the arithmetic of the papers' rule.
 -- Assumes nothing.
 use mathlib.Core.Path.{_≡_, refl, sym, ap, ap₂, _∙_}
 use mathlib.Core.Bool.{Bool, true, false, not, _&&_, _||_, or-false}

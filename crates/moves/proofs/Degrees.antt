@@ -1,4 +1,5 @@
--- How many row ends a node has: a row put elsewhere changes it by that row's ends alone; the edits of the moves leave every node its number.
+-- How many row ends a node has: a row put elsewhere changes it by that row's
+-- ends alone; the edits of the moves leave every node its number.
 -- Assumes nothing.
 use mathlib.Core.Path.{_≡_, refl, sym, ap, ap₂, _∙_}
 use mathlib.Core.Logic.{_⊎_, inl, inr}
@@ -32,7 +33,8 @@ pub joins-at2 : (t : List ℕ) (r u w v : ℕ) → Joins t r u w → at2 (lo t r
 joins-at2 t r u w v (inl j) = ap₂ (λ (x y : ℕ). at2 x y v) (j .0) (j .1)
 joins-at2 t r u w v (inr j) = ap₂ (λ (x y : ℕ). at2 x y v) (j .0) (j .1) ∙ add-comm (tally (eqb w v)) (tally (eqb u v))
 
--- where the first end is below the second, the rows at v are counted by their ends
+-- where the first end is below the second, the rows at v are counted by their
+-- ends
 pub count-deg : (t : List ℕ) (v k : ℕ) → ((r : ℕ) → r < k → lo t r < hi t r) → count (λ r. touches t r v) k ≡ deg t v k
 unfolding count deg
 count-deg t v zero h = refl
@@ -89,7 +91,8 @@ deg-move t f g b p r s v m len hf hg hb fg fb gb jf jg =
     ∙ joins-at2 t g p s v jg in
     omega arith
 
--- the rows of NNI: x, which joins p and c, becomes q-c, and y, which joins q and d, becomes p-d
+-- the rows of NNI: x, which joins p and c, becomes q-c, and y, which joins q
+-- and d, becomes p-d
 pub deg-nni : (t : List ℕ) (x y p q c d v m : ℕ) → 2 * m ≤ length t → x < m → y < m → (x ≡ y → ⊥)
     → Joins t x p c → Joins t y q d → deg (put (put t x q c) y p d) v m ≡ deg t v m
 deg-nni t x y p q c d v m len hx hy xy jx jy =

@@ -1,5 +1,7 @@
--- An exchange of two rows across a row e: every other row keeps its split; the distance over Y is 2 where all four groups meet Y, and 0 where one
--- misses it. This is Proposition 1, for any two tables of which one is the other with two rows exchanged. Assumes nothing.
+-- An exchange of two rows across a row e: every other row keeps its split; the
+-- distance over Y is 2 where all four groups meet Y, and 0 where one
+-- misses it. This is Proposition 1, for any two tables of which one is the
+-- other with two rows exchanged. Assumes nothing.
 use mathlib.Core.Path.{_≡_, refl, sym, ap, ap₂, _∙_}
 use mathlib.Core.Logic.{_⊎_, inl, inr}
 use mathlib.Core.Bool.{Bool, true, false, not, _||_, true≢false, false≢true, or-false}
@@ -258,7 +260,8 @@ module _ (n : ℕ) (t t′ : List ℕ) (e x y f g p q a b c d : ℕ) (k : Exchan
       W-D : has (joined C B p) (mD .0) ≡ false
       W-D = two C B p (mD .0) false false (k .P .inner) (mD .1) (contra C D (mD .0) apart-CD (mD .1) (mD .2)) (contra B D (mD .0) apart-BD (mD .1) (mD .2))
 
-      -- no row of t′ has row e's split: its set would cross that of row e of t′
+      -- no row of t′ has row e's split: its set would cross that of row e of
+      -- t′
       no-row : (r : ℕ) → r < rows n → num n t Y e ≡ num n t′ Y r → ⊥
       no-row r h w =
           let u = never-cross n t′ r e s (joined C B p) (k .valid′) h (k .P .e-lt) rp (joined-parts n t′ p e y f q b c (k .P′) C B (four-flip .hA) (four-flip .hB)) in

@@ -1,4 +1,5 @@
--- A node p moved from between r and s to between u and z, and what each row parts afterwards. Assumes nothing.
+-- A node p moved from between r and s to between u and z, and what each row
+-- parts afterwards. Assumes nothing.
 use mathlib.Core.Path.{_≡_, refl, sym, ap, ap₂, _∙_}
 use mathlib.Core.Logic.{_⊎_, inl, inr}
 use mathlib.Core.Bool.{Bool, true, false, not, _||_, or-true, Bool·not-not}
@@ -16,7 +17,8 @@ use Rattle.tree.proofs.Joins.{Joins, join-flat, flat-join, join-apart, apart-jo
 use Rattle.tree.proofs.Colourings.{Parts, Hangs}
 use Rattle.tree.proofs.Forks.{Fork}
 
--- before: p has rows a to o, h to s, w to r, and row b is u-z; after: row F is r-s, row N is u-p, row X is p-z. M is what hangs beyond a.
+-- before: p has rows a to o, h to s, w to r, and row b is u-z; after: row F is
+-- r-s, row N is u-p, row X is p-z. M is what hangs beyond a.
 pub record Graft (n : ℕ) (t t′ : List ℕ) (a w h b F N X p o r s u z M : ℕ) : Type 0 where
   pub valid : Valid n t
   pub valid′ : Valid n t′
@@ -45,7 +47,8 @@ xor-false : (x : Bool) → (x ⊕ false) ≡ x
 xor-false true = refl
 xor-false false = refl
 
--- the set S with the members of M and p exchanged: those in S leave it, the others come into it
+-- the set S with the members of M and p exchanged: those in S leave it, the
+-- others come into it
 unfoldable pub crossed : ℕ → ℕ → ℕ → ℕ
 crossed M p S = bitXor S (add M p)
 
@@ -186,7 +189,8 @@ module _ {n : ℕ} {t t′ : List ℕ} {a w h b F N X p o r s u z M : ℕ} (k : 
       pull true y = sym (Bool·not-not y)
       pull false y = refl
 
-  -- where S parts p from z, and from u unless row N is left out, S with M and p exchanged is flat
+  -- where S parts p from z, and from u unless row N is left out, S with M and
+  -- p exchanged is flat
   crossed-flat : (e e′ S : ℕ) → (e ≡ a → ⊥) → (e ≡ w → ⊥) → (e ≡ h → ⊥) → Parts n t e S → has S z ≡ not (has S p)
       → ((N ≡ e′ → ⊥) → has S u ≡ not (has S p)) → ((j : ℕ) → (j ≡ e′ → ⊥) → (j ≡ b → ⊥) → j ≡ e → ⊥) → Flat t′ e′ (rows n) (has (crossed M p S))
   crossed-flat e e′ S ea ew eh q zp up ne =

@@ -1,4 +1,5 @@
--- Lists of groups: who is in one of them, their union, and how many of them a set meets. Assumes nothing.
+-- Lists of groups: who is in one of them, their union, and how many of them a
+-- set meets. Assumes nothing.
 use mathlib.Core.Path.{_≡_, refl, sym, ap, ap₂, _∙_}
 use mathlib.Core.Bool.{Bool, true, false, _||_, or-true, or-false, or-assoc, or-comm}
 use mathlib.Core.List.{List, [], _∷_, _++_, reverse, append-assoc, reverse-cons}

@@ -1,4 +1,5 @@
--- Any move that passes its checks: what the checks say, kind by kind; the table stays valid and accepted; the distance is the papers' rule.
+-- Any move that passes its checks: what the checks say, kind by kind; the
+-- table stays valid and accepted; the distance is the papers' rule.
 -- Assumes nothing.
 use mathlib.Core.Path.{_≡_}
 use mathlib.Core.Logic.{_⊎_, inl, inr}
@@ -28,7 +29,8 @@ pub record NniPass (n : ℕ) (t : List ℕ) (m : Move) : Type 0 where
   pub y-lt : m .third < rows n
   pub fit : nniFits n t (m .first) (m .second) (m .third) ≡ true
 
--- an SPR: two different rows of the table, and the second does not touch the end that moves
+-- an SPR: two different rows of the table, and the second does not touch the
+-- end that moves
 pub record SprPass (n : ℕ) (t : List ℕ) (m : Move) : Type 0 where
   pub kind-is : m .kind ≡ 2
   pub a-lt : m .first < rows n
@@ -36,7 +38,8 @@ pub record SprPass (n : ℕ) (t : List ℕ) (m : Move) : Type 0 where
   pub ab : m .first ≡ m .second → ⊥
   pub away : touches t (m .second) (endWith n t (m .first) (m .second)) ≡ false
 
--- a TBR: its rows are rows of the table, each target lies on its side of the row that is cut, and not both touch it
+-- a TBR: its rows are rows of the table, each target lies on its side of the
+-- row that is cut, and not both touch it
 pub record TbrPass (n : ℕ) (t : List ℕ) (m : Move) : Type 0 where
   pub kind-is : m .kind ≡ 3
   pub a-lt : m .first < rows n

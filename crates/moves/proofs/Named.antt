@@ -1,4 +1,5 @@
--- A move changes only the rows that document 01 names for it, and the table keeps its length. Assumes nothing.
+-- A move changes only the rows that document 01 names for it, and the table
+-- keeps its length. Assumes nothing.
 use mathlib.Core.Path.{_≡_, refl, sym, ap, ap₂, _∙_}
 use mathlib.Core.Bool.{Bool, true, false, not, _&&_}
 use mathlib.Core.List.{List, [], _∷_, _++_}
@@ -74,7 +75,8 @@ not-on r x xs h = let w = or-neither (eqb r x) (mem r xs) h in (eqb-false r x (w
 put-rest : (t : List ℕ) (k u v r : ℕ) → (r ≡ k → ⊥) → SameRow t (put t k u v) r
 put-rest t k u v r d = (lo-other t k u v r d, hi-other t k u v r d)
 
--- where an end moves, every row but the three named keeps its ends; so too where it may stay
+-- where an end moves, every row but the three named keeps its ends; so too
+-- where it may stay
 end-rest : (n : ℕ) (t : List ℕ) (p a b r : ℕ) → mem r (endNamed n t p a b) ≡ false → SameRow t (moveEnd n t p a b) r
 unfolding moveEnd endNamed
 end-rest n t p a b r h =
@@ -104,7 +106,8 @@ others-same t t′ a v zero h = refl
 others-same t t′ a v (suc k) h =
     ap₂ (λ (c : Bool) (l : List ℕ). pick (c && not (eqb k a)) (l ++ k ∷ []) l) (h k) (others-same t t′ a v k h)
 
--- the second end's rows are named in the table before the first end is moved: they are the same after it
+-- the second end's rows are named in the table before the first end is moved:
+-- they are the same after it
 second-named : (n : ℕ) (t t′ : List ℕ) (p a b : ℕ) → ((j : ℕ) → touches t′ j p ≡ touches t j p) → stayNamed n t′ p a b ≡ stayNamed n t p a b
 unfolding stayNamed endNamed
 second-named n t t′ p a b h =

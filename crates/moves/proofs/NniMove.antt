@@ -1,5 +1,7 @@
--- The move `nni` on a valid table, where the rows fit: the ends that rows x and y have on row e are exchanged and every other row is as before; the
--- table stays valid; the distance is that of the four groups, Proposition 1. Assumes nothing.
+-- The move `nni` on a valid table, where the rows fit: the ends that rows x
+-- and y have on row e are exchanged and every other row is as before; the
+-- table stays valid; the distance is that of the four groups, Proposition 1.
+-- Assumes nothing.
 use mathlib.Core.Path.{_≡_, refl, sym, ap, _∙_}
 use mathlib.Core.Logic.{_⊎_, inl, inr}
 use mathlib.Core.Bool.{Bool, true, false, not, _&&_, _||_, true≢false, false≢true}
@@ -164,7 +166,8 @@ and-five true true false d f h = absurd (false≢true h)
 and-five true false c d f h = absurd (false≢true h)
 and-five false b c d f h = absurd (false≢true h)
 
--- a move that passes its check fits: p is the end that x has on e, q the other end of e, which is the end that y has on e
+-- a move that passes its check fits: p is the end that x has on e, q the other
+-- end of e, which is the end that y has on e
 pub nni-fit : (n : ℕ) (t : List ℕ) (e x y : ℕ) → Valid n t → e < rows n → x < rows n → y < rows n → nniFits n t e x y ≡ true
     → NniFit n t e x y (endOn t e x) (far t e (endOn t e x))
 unfolding nniFits
@@ -216,13 +219,15 @@ pub nni-valid : (n : ℕ) (t : List ℕ) (e x y : ℕ) → Valid n t → e < row
 nni-valid n t e x y vt le lx ly h =
     rw (nni-eq t e x y) (swapped-valid n t e x y (endOn t e x) (far t e (endOn t e x)) (nni-fit n t e x y vt le lx ly h))
 
--- the ends that x and y have on e are exchanged, and every other row keeps both its ends
+-- the ends that x and y have on e are exchanged, and every other row keeps
+-- both its ends
 pub nni-rest : (n : ℕ) (t : List ℕ) (e x y : ℕ) → Valid n t → e < rows n → x < rows n → y < rows n → nniFits n t e x y ≡ true
     → NniRows t (nni t e x y) e x y (endOn t e x) (far t e (endOn t e x))
 nni-rest n t e x y vt le lx ly h =
     rw (nni-eq t e x y) (swapped-rows n t e x y (endOn t e x) (far t e (endOn t e x)) (nni-fit n t e x y vt le lx ly h))
 
--- Proposition 1: the distance over Y is 2 when all of the four groups around e meet Y, else 0
+-- Proposition 1: the distance over Y is 2 when all of the four groups around e
+-- meet Y, else 0
 pub nni-dist : (n : ℕ) (t : List ℕ) (e x y : ℕ) → Valid n t → e < rows n → x < rows n → y < rows n → nniFits n t e x y ≡ true
     → (Y : ℕ) → Y < 2 ^ n → dist n t (nni t e x y) Y ≡ nniRule n t e Y
 nni-dist n t e x y vt le lx ly h Y bound =

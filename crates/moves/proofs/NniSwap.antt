@@ -1,4 +1,5 @@
--- Two rows, x at one end p of a row e and y at its other end q, exchange those ends: which ends the rows have afterwards, and that the table stays valid.
+-- Two rows, x at one end p of a row e and y at its other end q, exchange those
+-- ends: which ends the rows have afterwards, and that the table stays valid.
 -- Assumes nothing.
 use mathlib.Core.Path.{_≡_, sym, ap, _∙_, subst}
 use mathlib.Core.Logic.{_⊎_, inl, inr}
@@ -35,7 +36,8 @@ pub record NniFit (n : ℕ) (t : List ℕ) (e x y p q : ℕ) : Type 0 where
 unfoldable pub swapped : List ℕ → ℕ → ℕ → ℕ → ℕ → List ℕ
 swapped t x y p q = put (put t x q (far t x p)) y p (far t y q)
 
--- what it does to the rows of t: x, at p before, is at q after; y, at q before, is at p after; each keeps its other end; no other row changes
+-- what it does to the rows of t: x, at p before, is at q after; y, at q
+-- before, is at p after; each keeps its other end; no other row changes
 pub record NniRows (t t′ : List ℕ) (e x y p q : ℕ) : Type 0 where
   pub e-before : Joins t e p q
   pub e-after : Joins t′ e p q
@@ -165,7 +167,8 @@ module _ (n : ℕ) (t : List ℕ) (e x y p q : ℕ) (k : NniFit n t e x y p q) w
       ∙ deg-nni t x y p q (far t x p) (far t y q) v (rows n) (omega (arith, k .valid .len)) (k .x-lt) (k .y-lt) xy x-row y-row
       ∙ sym (count-deg t v (rows n) (λ r h. k .valid .order r h .0))
 
-  -- a colour that no row of the new table changes no row of the old one changes
+  -- a colour that no row of the new table changes no row of the old one
+  -- changes
   flat-back : (c : ℕ → Bool) → FlatAll n t′ c → FlatAll n t c
   flat-back c f r h = go (either (eqb r x)) (either (eqb r y))
     where

@@ -1,4 +1,5 @@
--- A row put into a table: the row joins the two nodes, the smaller first, and every other row is as before. Assumes nothing.
+-- A row put into a table: the row joins the two nodes, the smaller first, and
+-- every other row is as before. Assumes nothing.
 use mathlib.Core.Path.{_≡_, _∙_}
 use mathlib.Core.Logic.{_⊎_, inl, inr}
 use mathlib.Core.Bool.{true, false}

@@ -1,4 +1,5 @@
--- Node p, which joins o by row a, r by f and s by g, is put onto row b, on its own side of a: what is connected stays connected. Assumes nothing.
+-- Node p, which joins o by row a, r by f and s by g, is put onto row b, on its
+-- own side of a: what is connected stays connected. Assumes nothing.
 use mathlib.Core.Path.{_≡_, refl, sym, ap, ap₂, _∙_}
 use mathlib.Core.Logic.{_⊎_, inl, inr}
 use mathlib.Core.Bool.{Bool, true, false, _||_, or-true}
@@ -15,7 +16,8 @@ use Rattle.tree.proofs.Bridges.{Table}
 use Rattle.tree.proofs.Colourings.{Parts, FlatAll, one-colour, connected-by}
 use Rattle.tree.proofs.Forks.{Fork}
 
--- row f becomes r-s, row b becomes its first end and p, row g becomes p and b's second end; M is the part that hangs from p by row a
+-- row f becomes r-s, row b becomes its first end and p, row g becomes p and
+-- b's second end; M is the part that hangs from p by row a
 pub record Regraft (n : ℕ) (t t′ : List ℕ) (a b f g p o r s M : ℕ) : Type 0 where
   pub big : 4 ≤ n
   pub tab : Table n t

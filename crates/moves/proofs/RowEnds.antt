@@ -1,4 +1,5 @@
--- The ends of a row: whether it is at a node, and whether a set holds one. Assumes nothing.
+-- The ends of a row: whether it is at a node, and whether a set holds one.
+-- Assumes nothing.
 use mathlib.Core.Path.{_≡_, sym, ap, ap₂, _∙_}
 use mathlib.Core.Logic.{inl, inr}
 use mathlib.Core.Bool.{true, false, _||_}
@@ -23,12 +24,14 @@ no-touch t r v o h = go (touch-joins t r v h)
 pub touch-same : (t t′ : List ℕ) (r v : ℕ) → (lo t′ r ≡ lo t r) × (hi t′ r ≡ hi t r) → touches t′ r v ≡ touches t r v
 touch-same t t′ r v e = ap₂ (λ (l m : ℕ). eqb l v || eqb m v) (e .0) (e .1)
 
--- a set that holds both ends of a row or neither, and not its end u, does not hold the smaller end
+-- a set that holds both ends of a row or neither, and not its end u, does not
+-- hold the smaller end
 pub out-lo : (t : List ℕ) (r u v S : ℕ) → Joins t r u v → has S u ≡ false → has S (lo t r) ≡ has S (hi t r) → has S (lo t r) ≡ false
 out-lo t r u v S (inl j) h w = ap (has S) (j .0) ∙ h
 out-lo t r u v S (inr j) h w = w ∙ ap (has S) (j .1) ∙ h
 
--- S hangs by row r, which has an end u outside S′, and S′ by row r′, which has an end u′ outside S: they have no node in common
+-- S hangs by row r, which has an end u outside S′, and S′ by row r′, which has
+-- an end u′ outside S: they have no node in common
 pub hang-apart : (n : ℕ) (t : List ℕ) (r u v r′ u′ v′ S S′ : ℕ) → Table n t → r < rows n → r′ < rows n → (r ≡ r′ → ⊥) → Joins t r u v → Joins t r′ u′ v′
     → Parts n t r S → Parts n t r′ S′ → has S′ u ≡ false → has S u′ ≡ false → (i : ℕ) → i < nodes n → has S i ≡ true → has S′ i ≡ false
 hang-apart n t r u v r′ u′ v′ S S′ tab l l′ d j j′ a b o o′ =

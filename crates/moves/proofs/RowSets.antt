@@ -1,4 +1,5 @@
--- The sets of nodes that one row alone leaves: any two of them have the same nodes or no node in common; a row's side from any of them.
+-- The sets of nodes that one row alone leaves: any two of them have the same
+-- nodes or no node in common; a row's side from any of them.
 -- Assumes nothing.
 use mathlib.Core.Path.{_≡_, refl, sym, ap, _∙_}
 use mathlib.Core.Logic.{_⊎_, inl, inr}
@@ -24,7 +25,8 @@ module _ (n : ℕ) (t : List ℕ) (e S S′ : ℕ) (vt : Valid n t) (a : Parts n
       let w = parts-unique n t e S S′ (vt .connected) (vt .big) a b in
       w .1 i li ∙ ap (λ (x : Bool). w .0 ⊕ x) h ∙ sym (w .1 j lj)
 
-  -- two sets of the row that both hold a node, or both not, have the same nodes
+  -- two sets of the row that both hold a node, or both not, have the same
+  -- nodes
   pub alike : (v : ℕ) → v < nodes n → has S v ≡ has S′ v → (i : ℕ) → i < nodes n → has S i ≡ has S′ i
   alike v lv h i l =
       let w = parts-unique n t e S S′ (vt .connected) (vt .big) a b in
@@ -44,7 +46,8 @@ parts-same n t e S S′ vt le h q = record {
     ends : (r : ℕ) → r < rows n → (lo t r < nodes n) × (hi t r < nodes n)
     ends = valid-table n t vt .ends
 
--- the side of a row, from any set of it: its taxa where it holds the smaller end, otherwise all other taxa
+-- the side of a row, from any set of it: its taxa where it holds the smaller
+-- end, otherwise all other taxa
 pub side-from : (n : ℕ) (t : List ℕ) (e S : ℕ) → Valid n t → e < rows n → Parts n t e S → side n t e ≡ pick (has S (lo t e)) (S % 2 ^ n) (less (full n) S)
 unfolding side
 side-from n t e S vt le q = go (has S (lo t e)) (xor-at-true (w .0) (has S (lo t e)) (ap (λ (x : Bool). w .0 ⊕ x) (sym (part-start n t e (lo t e))) ∙ sym (w .1 (lo t e) (tab .ends e le .0))))

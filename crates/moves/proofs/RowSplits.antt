@@ -1,4 +1,5 @@
--- The splits of a table are those of sets that its rows part, and no two of them cross. Assumes nothing.
+-- The splits of a table are those of sets that its rows part, and no two of
+-- them cross. Assumes nothing.
 use mathlib.Core.Path.{_≡_, sym, ap, _∙_}
 use mathlib.Core.Bool.{Bool, true, false, not, Bool·not-not}
 use mathlib.Core.List.{List}
@@ -29,7 +30,8 @@ abbrev pub Corners : ℕ → ℕ → ℕ → Type 0
 Corners y s s′ = (p q : Bool) → (i : ℕ) × (has y i ≡ true) × (has s i ≡ p) × (has s′ i ≡ q)
 
 module _ {n : ℕ} {t : List ℕ} (vt : Valid n t) (y : ℕ) (bound : y < 2 ^ n) where
-  -- a set that parts y as a row does, up to the complement, has its split on the list
+  -- a set that parts y as a row does, up to the complement, has its split on
+  -- the list
   pub row-mem : (c : ℕ → Bool) (s : ℕ) (d : Bool) → Row n t c → ((i : ℕ) → has y i ≡ true → has s i ≡ (d ⊕ c i))
       → some (split n y s) ≡ true → mem (split n y s) (splits n t y) ≡ true
   row-mem c s d R h p =

@@ -1,4 +1,5 @@
--- What every row's set is after a move, from the sets before. A row's set is any set of nodes that this row alone leaves (`Parts`); `side-from` of
+-- What every row's set is after a move, from the sets before. A row's set is
+-- any set of nodes that this row alone leaves (`Parts`); `side-from` of
 -- RowSets gives the row's side from it. Assumes nothing.
 use mathlib.Core.Path.{_≡_, refl, sym, ap, ap₂, _∙_, subst}
 use mathlib.Core.Logic.{inl, inr}
@@ -159,7 +160,8 @@ crossed-taxa n M p S inner = ext (crossed M p S % 2 ^ n) (bitXor (S % 2 ^ n) (M 
     at i true h = ap (λ (x : Bool). has S i ⊕ x) (ap (λ (x : Bool). has M i || x) (ne-eqb p i (λ d. omega (arith, ltb-true i n h))) ∙ or-false (has M i))
     at i false h = refl
 
--- After the end p of row a is moved onto row b, with f and g the other rows at p, f the lower, and M what hangs from p by a:
+-- After the end p of row a is moved onto row b, with f and g the other rows at
+-- p, f the lower, and M what hangs from p by a:
 pub record EndSides (n : ℕ) (t t′ : List ℕ) (p b f g M : ℕ) : Type 0 where
   -- a row other than f, g and b that does not part p from b keeps its sets
   pub keeps : (j S : ℕ) → (j ≡ f → ⊥) → (j ≡ g → ⊥) → (j ≡ b → ⊥) → Parts n t j S → has S p ≡ has S (lo t b) → Parts n t′ j S
@@ -168,10 +170,12 @@ pub record EndSides (n : ℕ) (t t′ : List ℕ) (p b f g M : ℕ) : Type 0 whe
   -- f takes the sets of the one of f and g that does not lead to b
   pub f-from-g : (S : ℕ) → leads n t b p f ≡ true → Parts n t g S → Parts n t′ f S
   pub f-from-f : (S : ℕ) → leads n t b p f ≡ false → Parts n t f S → Parts n t′ f S
-  -- p lies with b's smaller end: g, which leads to the larger, takes b's sets, and in b's own M and p are exchanged
+  -- p lies with b's smaller end: g, which leads to the larger, takes b's sets,
+  -- and in b's own M and p are exchanged
   pub low-g : (S : ℕ) → has (part n t b (lo t b)) p ≡ true → Parts n t b S → Parts n t′ g S
   pub low-b : (S : ℕ) → has (part n t b (lo t b)) p ≡ true → Parts n t b S → Parts n t′ b (crossed M p S)
-  -- p lies with b's larger end: b, which leads to the smaller, keeps its sets, and g takes them with M and p exchanged
+  -- p lies with b's larger end: b, which leads to the smaller, keeps its sets,
+  -- and g takes them with M and p exchanged
   pub high-b : (S : ℕ) → has (part n t b (lo t b)) p ≡ false → Parts n t b S → Parts n t′ b S
   pub high-g : (S : ℕ) → has (part n t b (lo t b)) p ≡ false → Parts n t b S → Parts n t′ g (crossed M p S)
 
@@ -197,7 +201,8 @@ module _ {n : ℕ} {t : List ℕ} {p a b f g : ℕ} (k : EndFits n t p a b) (K :
   by-g : Fork n t p g a f (far t g p) (far t a p) (far t f p)
   by-g = fork-turn (joins-differ n t g (k .valid) (K .g-lt) p (far t g p) (fk .f-row)) fk
 
-  -- the move, with b's smaller end taken for the nearer to p, and with its larger
+  -- the move, with b's smaller end taken for the nearer to p, and with its
+  -- larger
   near-lo : {w h r s : ℕ} → Fork n t p w a h r (far t a p) s → Graft n t t′ a w h b f b g p (far t a p) r s (lo t b) (hi t b) M
   near-lo q = graft-of k K q (inl (refl, refl)) b g (b-row n t p a b f g k K) (g-row n t p a b f g k K) (k .b-lt) (K .g-lt) (λ i x y. (x, y))
 
@@ -282,7 +287,8 @@ unfolding spr
 spr-sides n t a b vt la lb ab tb = move-end-sides n t (endWith n t a b) a b (spr-fits n t a b vt la lb ab tb)
 
 -- ---- TBR
--- An end p of row a whose target b touches it stays, and the table is as before; otherwise it moves.
+-- An end p of row a whose target b touches it stays, and the table is as
+-- before; otherwise it moves.
 pub record StaySides (n : ℕ) (t t′ : List ℕ) (p a b : ℕ) : Type 0 where
   pub stays : touches t b p ≡ true → t′ ≡ t
   pub moves : touches t b p ≡ false → EndMoved n t t′ p a b

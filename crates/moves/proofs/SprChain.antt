@@ -1,4 +1,5 @@
--- The splits before and after p is moved onto b are a chain of the groups on the way. Assumes nothing.
+-- The splits before and after p is moved onto b are a chain of the groups on
+-- the way. Assumes nothing.
 use mathlib.Core.Path.{_≡_, refl, sym, ap, _∙_}
 use mathlib.Core.Logic.{_⊎_, inl, inr}
 use mathlib.Core.Bool.{Bool, true, false, not, _||_, true≢false, or-true, or-false, or-assoc}
@@ -26,7 +27,8 @@ use Rattle.moves.proofs.Graft.{Graft, pr, a-parts, keep-parts, hang-par
 use Rattle.moves.proofs.Walk.{Taxa, Walk, next, fork-turn, Base, behind, behind-v, behind-H, behind-taxa, no-common, inside-step, false-sub, out-z, b-on-way, exact, exact-cut, cut-rows}
 use Rattle.moves.proofs.WalkRows.{Inv, base, taxon-crossed, cut-rows′, group-rows, OnWay, on-way, off-way, far-set}
 
--- The way from p: first the group g₁ that hangs by h, then those on the way from r. W has the taxa of M.
+-- The way from p: first the group g₁ that hangs by h, then those on the way
+-- from r. W has the taxa of M.
 module _ {n : ℕ} {t t′ : List ℕ} {a w h b F N X p o r s u z M : ℕ} (k : Graft n t t′ a w h b F N X p o r s u z M)
     {xs gs : List ℕ} (way : Walk n t b u z r w p xs gs) {H : ℕ} (hH : Hangs n t h p H) (g₁ : ℕ) (tx : Taxa n g₁ H) (W : ℕ) (tw : Taxa n W M) where
   fork₁ : Fork n t p w a h r o s

@@ -1,4 +1,5 @@
--- An end moved onto a row that fits: the distance by the groups met on the way. Assumes nothing.
+-- An end moved onto a row that fits: the distance by the groups met on the
+-- way. Assumes nothing.
 use mathlib.Core.Path.{_≡_, refl, sym, ap, _∙_, subst}
 use mathlib.Core.Logic.{_⊎_, inl, inr}
 use mathlib.Core.Bool.{true, false}
@@ -153,7 +154,8 @@ module _ {n : ℕ} {t : List ℕ} {p a b f g : ℕ} (k : EndFits n t p a b) (K :
 abbrev pub SomeGraft : ℕ → List ℕ → List ℕ → ℕ → ℕ → ℕ → Type 0
 SomeGraft n t t′ p a b = (w h F N X r s u z : ℕ) × Graft n t t′ a w h b F N X p (far t a p) r s u z (part n t a (far t a p))
 
--- the splits before and after are a chain of the groups gs; W has the taxa of the part that is moved
+-- the splits before and after are a chain of the groups gs; W has the taxa of
+-- the part that is moved
 abbrev pub MoveChain : ℕ → List ℕ → List ℕ → ℕ → ℕ → List ℕ → Type 0
 MoveChain n t t′ p a gs = (W y : ℕ) → Taxa n W (part n t a (far t a p)) → y < 2 ^ n → Chain n y W gs (splits n t y) (splits n t′ y)
 

@@ -1,4 +1,5 @@
--- The end p of row a put onto row b: which ends the rows have afterwards, and that the table stays valid. Assumes nothing.
+-- The end p of row a put onto row b: which ends the rows have afterwards, and
+-- that the table stays valid. Assumes nothing.
 use mathlib.Core.Path.{_≡_, refl, sym, ap, _∙_, subst}
 use mathlib.Core.Logic.{_⊎_, inl, inr}
 use mathlib.Core.Bool.{true, false}

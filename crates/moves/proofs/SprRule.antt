@@ -1,4 +1,5 @@
--- An SPR whose rows fit: the table stays valid, and the distance is the papers' rule, from the groups met. Assumes nothing.
+-- An SPR whose rows fit: the table stays valid, and the distance is the
+-- papers' rule, from the groups met. Assumes nothing.
 use mathlib.Core.Path.{_≡_, refl, sym, ap, _∙_}
 use mathlib.Core.Logic.{_⊎_, inl, inr}
 use mathlib.Core.Bool.{Bool, true, false, not, true≢false}

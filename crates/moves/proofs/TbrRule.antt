@@ -1,4 +1,5 @@
--- A TBR whose rows fit: the table stays valid, and the distance is the papers' rule, from the groups met on the two sides. Assumes nothing.
+-- A TBR whose rows fit: the table stays valid, and the distance is the papers'
+-- rule, from the groups met on the two sides. Assumes nothing.
 use mathlib.Core.Path.{_≡_, refl, sym, ap₂, _∙_, subst}
 use mathlib.Core.Bool.{Bool, true, false}
 use mathlib.Core.List.{List}

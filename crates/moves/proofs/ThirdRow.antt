@@ -1,4 +1,5 @@
--- An inner node with two of its rows, e and x, given: its third row, and the groups that hang from the node beyond x and beyond the third row.
+-- An inner node with two of its rows, e and x, given: its third row, and the
+-- groups that hang from the node beyond x and beyond the third row.
 -- Assumes nothing.
 use mathlib.Core.Path.{_≡_, sym, ap, _∙_, subst}
 use mathlib.Core.Logic.{_⊎_, inl, inr}

@@ -1,4 +1,5 @@
--- Two chains after one another, each with the other's groups for its w: what they lose adds up. No table here. Assumes nothing.
+-- Two chains after one another, each with the other's groups for its w: what
+-- they lose adds up. No table here. Assumes nothing.
 use mathlib.Core.Path.{_≡_, refl, sym, ap₂, _∙_}
 use mathlib.Core.Logic.{_⊎_, inl, inr}
 use mathlib.Core.Bool.{Bool, true, false, not, true≢false}
@@ -53,7 +54,8 @@ chain-torn {n} {y} {w} {gs} {xs} {ys} k x h l = go (some (bitAnd w y)) refl
         }
     go false e = absurd (true≢false (sym (none-lacks xs ys (chain-same k (none-miss y w e)) x h) ∙ l))
 
--- what is lost by the first chain does not come back by the second, and what is lost by the second was there before the first
+-- what is lost by the first chain does not come back by the second, and what
+-- is lost by the second was there before the first
 lacks-two : {n y w v : ℕ} {gs hs xs ys zs : List ℕ} → Chain n y w gs xs ys → Chain n y v hs ys zs → ((i : ℕ) → has y i ≡ true → has v i ≡ not (has w i))
     → lacks xs zs ≡ lacks xs ys + lacks ys zs
 lacks-two {n} {y} {w} {v} {gs} {hs} {xs} {ys} {zs} k l opp = lacks-add xs ys zs (k .asc) (l .asc) gone there

@@ -1,4 +1,5 @@
--- The way from a node to row b, node by node, the groups that hang from it, and the sets that its rows part. Assumes nothing.
+-- The way from a node to row b, node by node, the groups that hang from it,
+-- and the sets that its rows part. Assumes nothing.
 use mathlib.Core.Path.{_≡_, refl, sym, ap, ap₂, _∙_, subst}
 use mathlib.Core.Logic.{_⊎_, inl, inr}
 use mathlib.Core.Bool.{Bool, true, false, not, _||_, true≢false, or-true, or-false, or-assoc}
@@ -23,7 +24,8 @@ use Rattle.moves.proofs.RowSplits.{Row, row-eq}
 abbrev pub Taxa : ℕ → ℕ → ℕ → Type 0
 Taxa n g H = (i : ℕ) → i < n → has g i ≡ has H i
 
--- at node v, come by row e from q: along the rows xs to row b = u-z; gs hang from the nodes on the way, and last is what lies beyond b
+-- at node v, come by row e from q: along the rows xs to row b = u-z; gs hang
+-- from the nodes on the way, and last is what lies beyond b
 pub data Walk (n : ℕ) (t : List ℕ) (b u z : ℕ) : ℕ → ℕ → ℕ → List ℕ → List ℕ → Type 0 where
   done : {v e q g D : ℕ} → v ≡ z → e ≡ b → q ≡ u → Hangs n t b u D → Taxa n g D → Walk n t b u z v e q [] (g ∷ [])
   next : {v e q h i x v′ g H : ℕ} {xs gs : List ℕ} → (e ≡ b → ⊥) → (h ≡ b → ⊥) → Fork n t v x e h v′ q i → Hangs n t h v H → Taxa n g H

@@ -130,7 +130,8 @@ module _ {n : ℕ} {t : List ℕ} {b : ℕ} (vt : Valid n t) (b-lt : b < rows n)
         next (λ d. A .be (sym d)) off-b q hH (beyond-taxa n t v off) (subst (λ (x : ℕ). Walk n t b (w .0) (w .1) (far t on v) on x (w .2) gs) far-far (w .4)),
       )
 
-  -- a walk of k nodes is long enough where more than `nodes n` less k nodes lie behind
+  -- a walk of k nodes is long enough where more than `nodes n` less k nodes
+  -- lie behind
   pub walk-is : (k v e P : ℕ) → Ahead n t b v e P → nodes n < k + size (nodes n) P → Found n t b v e (walk n t b k v e)
   unfolding leads
   walk-is zero v e P A fuel = absurd (omega (arith, size-le (nodes n) P))

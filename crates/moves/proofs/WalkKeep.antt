@@ -1,4 +1,5 @@
--- A way inside the part that is moved is the same way afterwards. Assumes nothing.
+-- A way inside the part that is moved is the same way afterwards. Assumes
+-- nothing.
 use mathlib.Core.Path.{_≡_, sym, ap, _∙_}
 use mathlib.Core.Logic.{_⊎_, inl, inr}
 use mathlib.Core.Bool.{true, false, not, true≢false}

@@ -1,4 +1,5 @@
--- What the rows on the way from r to row b part, before and after p is moved onto b. Assumes nothing.
+-- What the rows on the way from r to row b part, before and after p is moved
+-- onto b. Assumes nothing.
 use mathlib.Core.Path.{_≡_, refl, sym, ap, _∙_, subst}
 use mathlib.Core.Logic.{_⊎_, inl, inr}
 use mathlib.Core.Bool.{Bool, true, false, not, _||_, true≢false, false≢true, or-false, or-assoc}
@@ -75,7 +76,8 @@ module _ {n : ℕ} {t t′ : List ℕ} {a w h b F N X p o r s u z M : ℕ} (k : 
             is = taxon-crossed P;
           }
 
-  -- so what lies behind with the first groups, M exchanged, is what a row of t′ parts
+  -- so what lies behind with the first groups, M exchanged, is what a row of
+  -- t′ parts
   pub cut-rows′ : (ls : List ℕ) {v e q : ℕ} {xs gs : List ℕ} → Walk n t b u z v e q xs gs → (bs : List ℕ) (g : ℕ) → gs ≡ ls ++ (g ∷ bs) → (P : ℕ) → Inv v e P
       → Row n t′ (λ i. has P i ⊕ has M i) → Row n t′ (λ i. (has P i || any i ls) ⊕ has M i)
   unfolding any

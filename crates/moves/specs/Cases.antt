@@ -1,15 +1,18 @@
--- The case table of document 01, rows P1 to P11: moves on tree S, a set of taxa, and the distance.
+-- The case table of document 01, rows P1 to P11: moves on tree S, a set of
+-- taxa, and the distance.
 use Prim.Native.Nat.{ℕ}
 use mathlib.Core.Bool.{Bool, true, _&&_}
 use mathlib.Core.List.{List, [], _∷_}
 use lib.Dec.{eqb}
 use Rattle.tree.specs.Splits.{dist}
-use Rattle.moves.specs.Moves.{Move, moved, kindRight, rowsRight, fits, anyMoves}
+use Rattle.moves.specs.Moves.{Move, moved, kindRight, rowsRight, fits}
+use Rattle.moves.specs.Moves.{anyMoves}
 use Rattle.moves.specs.Groups.{moveRule}
 
 -- Tree S, of 6 taxa: rows 0-6, 1-6, 6-7, 2-7, 7-8, 3-8, 8-9, 4-9, 5-9.
 unfoldable pub treeS : List ℕ
-treeS = 0 ∷ 6 ∷ 1 ∷ 6 ∷ 6 ∷ 7 ∷ 2 ∷ 7 ∷ 7 ∷ 8 ∷ 3 ∷ 8 ∷ 8 ∷ 9 ∷ 4 ∷ 9 ∷ 5 ∷ 9 ∷ []
+treeS =
+    0 ∷ 6 ∷ 1 ∷ 6 ∷ 6 ∷ 7 ∷ 2 ∷ 7 ∷ 7 ∷ 8 ∷ 3 ∷ 8 ∷ 8 ∷ 9 ∷ 4 ∷ 9 ∷ 5 ∷ 9 ∷ []
 
 -- The three kinds of move.
 abbrev pub NNI : ℕ → ℕ → ℕ → Move
@@ -41,7 +44,8 @@ cases =
     ∷ case (TBR 4 0 7) 0b001111 2
     ∷ []
 
--- The move passes its checks; the distance of tree S and the tree after it is the one in the table, and so is the distance by the papers' rule.
+-- The move passes its checks; the distance of tree S and the tree after it is
+-- the one in the table, and so is the distance by the papers' rule.
 unfoldable pub holds : Case → Bool
 holds (case m y d) =
     kindRight m && rowsRight 6 m && fits 6 treeS m && anyMoves 6 treeS m

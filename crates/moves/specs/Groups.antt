@@ -1,4 +1,5 @@
--- The groups of taxa about a move, and the papers' distance from how many of them are met.
+-- The groups of taxa about a move, and the papers' distance from how many of
+-- them are met.
 use Prim.Native.Nat.{ℕ, zero, suc, _+_, _*_, _-_, _^_, _%_}
 use mathlib.Core.Bool.{Bool, true, false, _||_}
 use mathlib.Core.List.{List, [], _∷_, _++_}
@@ -17,7 +18,8 @@ beyond n t v x = part n t x (far t x v) % 2 ^ n
 unfoldable pub leads : ℕ → List ℕ → ℕ → ℕ → ℕ → Bool
 leads n t b v x = eqb x b || has (part n t x (far t x v)) (lo t b)
 
--- From node v, reached by row e, walk towards row b in at most k nodes: each node passed adds the group that hangs from it; the last is beyond b.
+-- From node v, reached by row e, walk towards row b in at most k nodes: each
+-- node passed adds the group that hangs from it; the last is beyond b.
 unfoldable pub walk : ℕ → List ℕ → ℕ → ℕ → ℕ → ℕ → List ℕ
 walk n t b zero v e = []
 walk n t b (suc k) v e =
@@ -27,7 +29,8 @@ walk n t b (suc k) v e =
     let off = pick (leads n t b v x) y x in
     beyond n t v off ∷ elim (eqb on b) [ true ↦ beyond n t v b ∷ [] | false ↦ walk n t b k (far t on v) on ]
 
--- The groups on the side of row a's end v, whose target is b: no row, one group, the single taxon; otherwise those on the walk.
+-- The groups on the side of row a's end v, whose target is b: no row, one
+-- group, the single taxon; otherwise those on the walk.
 unfoldable pub groups : ℕ → List ℕ → ℕ → ℕ → ℕ → List ℕ
 groups n t a v b = pick (ltb v n) (2 ^ v ∷ []) (walk n t b (nodes n) v a)
 
@@ -45,17 +48,22 @@ met y (g ∷ gs) = tally (some (bitAnd g y)) + met y gs
 unfoldable pub rule : ℕ → ℕ → ℕ
 rule k j = pick (eqb k 0 || eqb j 0) 0 (2 * (k - 2 + (j - 2)))
 
--- NNI: four groups hang around e, two at each end; the distance is 2 when all four meet y, else 0.
+-- NNI: four groups hang around e, two at each end; the distance is 2 when all
+-- four meet y, else 0.
 unfoldable pub nniRule : ℕ → List ℕ → ℕ → ℕ → ℕ
-nniRule n t e y = pick (eqb (met y (stayed n t e (lo t e) ++ stayed n t e (hi t e))) 4) 2 0
+nniRule n t e y =
+    pick (eqb (met y (stayed n t e (lo t e) ++ stayed n t e (hi t e))) 4) 2 0
 
--- SPR: the groups from the moved row's end p to its target, and those of the part that is moved, a staying end.
+-- SPR: the groups from the moved row's end p to its target, and those of the
+-- part that is moved, a staying end.
 unfoldable pub sprRule : ℕ → List ℕ → ℕ → ℕ → ℕ → ℕ
-sprRule n t a b y = let p = endWith n t a b in rule (met y (groups n t a p b)) (met y (stayed n t a (far t a p)))
+sprRule n t a b y =
+    let p = endWith n t a b in rule (met y (groups n t a p b)) (met y (stayed n t a (far t a p)))
 
 -- TBR: the groups on the two sides of the row that is cut.
 unfoldable pub tbrRule : ℕ → List ℕ → ℕ → ℕ → ℕ → ℕ → ℕ
-tbrRule n t a b c y = rule (met y (groups n t a (lo t a) b)) (met y (groups n t a (hi t a) c))
+tbrRule n t a b c y =
+    rule (met y (groups n t a (lo t a) b)) (met y (groups n t a (hi t a) c))
 
 -- The papers' distance of a move over y.
 unfoldable pub moveRule : ℕ → List ℕ → Move → ℕ → ℕ

@@ -1,4 +1,5 @@
--- The three moves of document 01, in its order, and what a move is refused for. Rows are written smaller end first.
+-- The three moves of document 01, in its order, and what a move is refused
+-- for. Rows are written smaller end first.
 use Prim.Native.Nat.{ℕ, _+_, _*_, _-_, min, max}
 use mathlib.Core.Bool.{Bool, true, not, _&&_, _||_}
 use mathlib.Core.List.{List, [], _∷_}
@@ -32,7 +33,8 @@ nni t e x y =
     let q = far t e p in
     put (put t x q (far t x p)) y p (far t y q)
 
--- Both ends of e are inner nodes; x is another row at one end of e, y another row at the other end.
+-- Both ends of e are inner nodes; x is another row at one end of e, y another
+-- row at the other end.
 unfoldable pub nniFits : ℕ → List ℕ → ℕ → ℕ → ℕ → Bool
 nniFits n t e x y =
     leb n (lo t e) && leb n (hi t e) && not (eqb x e) && not (eqb y e)
@@ -44,7 +46,9 @@ nniFits n t e x y =
 unfoldable pub endWith : ℕ → List ℕ → ℕ → ℕ → ℕ
 endWith n t a b = pick (has (part n t a (lo t a)) (lo t b)) (lo t a) (hi t a)
 
--- With p an end of a, f and g the other rows at p, f the lower row number, r and s their far ends, and b the row c-d: f becomes r-s, b becomes c-p, g becomes p-d.
+-- With p an end of a, f and g the other rows at p, f the lower row number, r
+-- and s their far ends, and b the row c-d: f becomes r-s, b becomes c-p, g
+-- becomes p-d.
 unfoldable pub moveEnd : ℕ → List ℕ → ℕ → ℕ → ℕ → List ℕ
 moveEnd n t p a b =
     let fs = others t a p (rows n) in
@@ -61,13 +65,16 @@ spr n t a b = moveEnd n t (endWith n t a b) a b
 unfoldable pub stayOr : ℕ → List ℕ → ℕ → ℕ → ℕ → List ℕ
 stayOr n t p a b = pick (touches t b p) t (moveEnd n t p a b)
 
--- Row a is cut; b is the target in the part of a's smaller end, c in the part of its larger end.
+-- Row a is cut; b is the target in the part of a's smaller end, c in the part
+-- of its larger end.
 unfoldable pub tbr : ℕ → List ℕ → ℕ → ℕ → ℕ → List ℕ
 tbr n t a b c = stayOr n (stayOr n t (lo t a) a b) (hi t a) a c
 
--- Row b lies in the part of a's end v. A part that is a single taxon has no row, and its target must be a itself.
+-- Row b lies in the part of a's end v. A part that is a single taxon has no
+-- row, and its target must be a itself.
 unfoldable pub target : ℕ → List ℕ → ℕ → ℕ → ℕ → Bool
-target n t a v b = pick (ltb v n) (eqb b a) (not (eqb b a) && has (part n t a v) (lo t b))
+target n t a v b =
+    pick (ltb v n) (eqb b a) (not (eqb b a) && has (part n t a v) (lo t b))
 
 -- ---- any move
 
@@ -79,11 +86,13 @@ moved n t m =
 
 -- Kind 1 to 3, and the last byte of an SPR is 0.
 unfoldable pub kindRight : Move → Bool
-kindRight m = eqb (m .kind) 1 || eqb (m .kind) 2 && eqb (m .third) 0 || eqb (m .kind) 3
+kindRight m =
+    eqb (m .kind) 1 || eqb (m .kind) 2 && eqb (m .third) 0 || eqb (m .kind) 3
 
 -- Each row number that the move uses is at most 2n-4.
 unfoldable pub rowsRight : ℕ → Move → Bool
-rowsRight n m = leb (m .first) (2 * n - 4) && leb (m .second) (2 * n - 4) && (eqb (m .kind) 2 || leb (m .third) (2 * n - 4))
+rowsRight n m =
+    leb (m .first) (2 * n - 4) && leb (m .second) (2 * n - 4) && (eqb (m .kind) 2 || leb (m .third) (2 * n - 4))
 
 -- The rows fit the move.
 unfoldable pub fits : ℕ → List ℕ → Move → Bool
@@ -92,7 +101,8 @@ fits n t m =
     (pick (eqb (m .kind) 2) (not (eqb (m .first) (m .second)))
     (target n t (m .first) (lo t (m .first)) (m .second) && target n t (m .first) (hi t (m .first)) (m .third)))
 
--- Some end moves: in an SPR b does not touch the end p; in a TBR not both targets touch their ends of a.
+-- Some end moves: in an SPR b does not touch the end p; in a TBR not both
+-- targets touch their ends of a.
 unfoldable pub anyMoves : ℕ → List ℕ → Move → Bool
 anyMoves n t m =
     pick (eqb (m .kind) 1) true
@@ -101,4 +111,5 @@ anyMoves n t m =
 
 -- 7 to 10.
 abbrev pub moveChecks : ℕ → List ℕ → Move → List Check
-moveChecks n t m = (kindRight m else 7) ∷ (rowsRight n m else 8) ∷ (fits n t m else 9) ∷ (anyMoves n t m else 10) ∷ []
+moveChecks n t m =
+    (kindRight m else 7) ∷ (rowsRight n m else 8) ∷ (fits n t m else 9) ∷ (anyMoves n t m else 10) ∷ []

@@ -7,15 +7,18 @@ use Rattle.taxa.specs.Sets.{pick}
 use Rattle.tree.specs.Tree.{lo, hi, rows, touches, others}
 use Rattle.moves.specs.Moves.{Move, endWith}
 
--- Where the end p of row a is moved onto row b: f, b and g, with f and g the other rows at p.
+-- Where the end p of row a is moved onto row b: f, b and g, with f and g the
+-- other rows at p.
 unfoldable pub endNamed : ℕ → List ℕ → ℕ → ℕ → ℕ → List ℕ
-endNamed n t p a b = getD (others t a p (rows n)) 0 0 ∷ b ∷ getD (others t a p (rows n)) 1 0 ∷ []
+endNamed n t p a b =
+    getD (others t a p (rows n)) 0 0 ∷ b ∷ getD (others t a p (rows n)) 1 0 ∷ []
 
 -- The same, and none where b touches p, for then that end stays.
 unfoldable pub stayNamed : ℕ → List ℕ → ℕ → ℕ → ℕ → List ℕ
 stayNamed n t p a b = pick (touches t b p) [] (endNamed n t p a b)
 
--- NNI: x and y. SPR: f, b and g. TBR: f, b and g at each end that does not stay.
+-- NNI: x and y. SPR: f, b and g. TBR: f, b and g at each end that does not
+-- stay.
 unfoldable pub named : ℕ → List ℕ → Move → List ℕ
 named n t m =
     pick (eqb (m .kind) 1) (m .second ∷ m .third ∷ [])

@@ -1,1 +1,2 @@
-// The three moves, their groups and their distances: definitions and laws, and no code.
+// The three moves, their groups and their distances: definitions and laws, and
+// no code.

@@ -188,7 +188,8 @@ near-of n t a R room S = record {
 }
 
 -- ---- the two others of three
--- of a list of three, e left out, two are left: they are the two that stand beside e
+-- of a list of three, e left out, two are left: they are the two that stand
+-- beside e
 two-left : (e x y z : ℕ) → length (without e (x ∷ y ∷ z ∷ [])) ≡ 2
     → without e (x ∷ y ∷ z ∷ []) ≡ pick (eqb x e) y x ∷ pick (eqb x e) z (pick (eqb y e) z y) ∷ []
 unfolding without

@@ -1,4 +1,5 @@
--- Laws for the rows in a node's places, and for the node across a row. Assumes nothing.
+-- Laws for the rows in a node's places, and for the node across a row. Assumes
+-- nothing.
 use mathlib.Core.Path.{_≡_, refl, sym, ap, _∙_, subst}
 use mathlib.Core.Logic.{_⊎_, inl, inr}
 use mathlib.Core.Bool.{Bool, true, false, _||_, or-false}

@@ -22,15 +22,18 @@ hooked a v r =
     pick (eqb (getD a (3 * v) 0) free) (set a (3 * v) r)
     (pick (eqb (getD a (3 * v + 1) 0) free) (set a (3 * v + 1) r) (set a (3 * v + 2) r))
 
--- a holds the row at each taxon and the three rows at each inner node, in order
+-- a holds the row at each taxon and the three rows at each inner node, in
+-- order
 pub record Near (n : ℕ) (t a : List ℕ) : Type 0 where
   pub room : length a ≡ 3 * nodes most
   pub one : (v : ℕ) → v < n → rowsAt t v (rows n) ≡ getD a (3 * v + 0) 0 ∷ []
-  pub three : (v : ℕ) → n ≤ v → v < nodes n → rowsAt t v (rows n) ≡ getD a (3 * v + 0) 0 ∷ getD a (3 * v + 1) 0 ∷ getD a (3 * v + 2) 0 ∷ []
+  pub three : (v : ℕ) → n ≤ v → v < nodes n
+      → rowsAt t v (rows n) ≡ getD a (3 * v + 0) 0 ∷ getD a (3 * v + 1) 0 ∷ getD a (3 * v + 2) 0 ∷ []
 
 -- of v's three places, the first that is not e, and the second
 abbrev pub otherFirst : ℕ → List ℕ → ℕ → ℕ
-otherFirst e a v = pick (eqb (getD a (3 * v + 0) 0) e) (getD a (3 * v + 1) 0) (getD a (3 * v + 0) 0)
+otherFirst e a v =
+    pick (eqb (getD a (3 * v + 0) 0) e) (getD a (3 * v + 1) 0) (getD a (3 * v + 0) 0)
 
 abbrev pub otherSecond : ℕ → List ℕ → ℕ → ℕ
 otherSecond e a v =

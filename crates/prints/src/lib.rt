@@ -1,4 +1,5 @@
-// What the programs of cases write on standard output; a write that fails shows where their output is compared.
+// What the programs of cases write on standard output; a write that fails
+// shows where their output is compared.
 use libc::STDOUT_FILENO;
 
 // Writes words.

@@ -1,4 +1,5 @@
--- What is stored in a table is the edit of the definitions; the ends that are stored are bytes. Assumes nothing.
+-- What is stored in a table is the edit of the definitions; the ends that are
+-- stored are bytes. Assumes nothing.
 use mathlib.Core.Path.{_≡_}
 use mathlib.Core.Bool.{Bool, true, false}
 use mathlib.Core.List.{List}

@@ -1,4 +1,5 @@
--- The end p of row a moves onto row b: the rows at a's other end are as before. Assumes nothing.
+-- The end p of row a moves onto row b: the rows at a's other end are as
+-- before. Assumes nothing.
 use mathlib.Core.Path.{_≡_, refl, sym, ap, _∙_}
 use mathlib.Core.Bool.{true, false, true≢false}
 use mathlib.Core.List.{List}

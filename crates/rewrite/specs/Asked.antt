@@ -18,7 +18,8 @@ pub record EndMoves (n : ℕ) (t near : List ℕ) (p a b : ℕ) : Type 0 where
   pub a-p : touches t a p ≡ true
   pub inner : n ≤ p
   pub room : length near ≡ 3 * nodes most
-  pub two : others t a p (rows n) ≡ otherFirst a near p ∷ otherSecond a near p ∷ []
+  pub two :
+      others t a p (rows n) ≡ otherFirst a near p ∷ otherSecond a near p ∷ []
 
 -- the same, unless b touches p
 pub record EndAims (n : ℕ) (t near : List ℕ) (p a b : ℕ) : Type 0 where

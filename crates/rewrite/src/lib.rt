@@ -47,7 +47,8 @@ pub fn exchange(t: &mut [u8], e: usize, x: usize, y: usize)
     put(t, y, p, v);
 }
 
-// Rows f and g at node p become one row f between their far ends, and row b becomes two rows through p: b and g.
+// Rows f and g at node p become one row f between their far ends, and row b
+// becomes two rows through p: b and g.
 fn put_end(t: &mut [u8], p: usize, f: usize, g: usize, b: usize)
     requires { ⌜ (2 * f + 1 < length (now t)) × (2 * g + 1 < length (now t)) × (2 * b + 1 < length (now t)) × (p < 256) ⌝ }
     ensures { λ _.
@@ -63,7 +64,8 @@ fn put_end(t: &mut [u8], p: usize, f: usize, g: usize, b: usize)
     put(t, g, p, d);
 }
 
-// The end p of row a is moved onto row b; near holds the rows at each node of a table whose rows at p are those of this one.
+// The end p of row a is moved onto row b; near holds the rows at each node of
+// a table whose rows at p are those of this one.
 pub fn move_end(n: usize, t: &mut [u8], near: &[u8], p: usize, a: usize, b: usize)
     requires { ⌜ EndMoves n (now t) (now near) p a b ⌝ }
     ensures { λ _. ⌜ now (t .exit) ≡ moveEnd n (now (t .entry)) p a b ⌝ }
@@ -83,7 +85,8 @@ fn stay_or_move(n: usize, t: &mut [u8], near: &[u8], p: usize, a: usize, b: usiz
     move_end(n, t, near, p, a, b);
 }
 
-// The SPR edit: the end p of row a, which is its end in b's part, is moved onto row b.
+// The SPR edit: the end p of row a, which is its end in b's part, is moved
+// onto row b.
 pub fn graft(n: usize, t: &mut [u8], near: &[u8], p: usize, a: usize, b: usize)
     requires { ⌜ Grafts n (now t) (now near) p a b ⌝ }
     ensures { λ _. ⌜ now (t .exit) ≡ spr n (now (t .entry)) a b ⌝ }
@@ -91,7 +94,8 @@ pub fn graft(n: usize, t: &mut [u8], near: &[u8], p: usize, a: usize, b: usize)
     move_end(n, t, near, p, a, b);
 }
 
-// The TBR edit: the smaller end of row a is moved onto row b and its larger end onto row c, where they do not touch.
+// The TBR edit: the smaller end of row a is moved onto row b and its larger
+// end onto row c, where they do not touch.
 pub fn cut(n: usize, t: &mut [u8], near: &[u8], a: usize, b: usize, c: usize)
     requires { ⌜ Cuts n (now t) (now near) a b c ⌝ }
     ensures { λ _. ⌜ now (t .exit) ≡ tbr n (now (t .entry)) a b c ⌝ }

@@ -1,4 +1,6 @@
--- Groups are counted one by one, a number for each partition on a list is written in order, and the numbers are the distances of two trees. Assumes nothing.
+-- Groups are counted one by one, a number for each partition on a list is
+-- written in order, and the numbers are the distances of two trees. Assumes
+-- nothing.
 use mathlib.Core.Path.{_≡_, refl, ap, _∙_}
 use mathlib.Core.Bool.{true, _&&_}
 use mathlib.Core.List.{List, [], _∷_, _++_, append-assoc}

@@ -18,9 +18,11 @@ unfoldable pub zeros : List ℕ → ℕ
 zeros [] = 0
 zeros (x ∷ xs) = tally (eqb x 0) + zeros xs
 
--- the distance over y from the groups gs and hs on the two sides: of an NNI 2 where all four are met, else 0; otherwise by the rule
+-- the distance over y from the groups gs and hs on the two sides: of an NNI 2
+-- where all four are met, else 0; otherwise by the rule
 abbrev pub byGroups : Bool → List ℕ → List ℕ → ℕ → ℕ
-byGroups nni gs hs y = pick nni (pick (eqb (met y gs + met y hs) 4) 2 0) (rule (met y gs) (met y hs))
+byGroups nni gs hs y =
+    pick nni (pick (eqb (met y gs + met y hs) 4) 2 0) (rule (met y gs) (met y hs))
 
 -- what the groups gs and hs are to be: few, and of an NNI two on each side
 pub record Few (nni : Bool) (gs hs : List ℕ) : Type 0 where
@@ -28,7 +30,8 @@ pub record Few (nni : Bool) (gs hs : List ℕ) : Type 0 where
   pub second : length hs ≤ 1000
   pub twos : nni ≡ true → (length gs ≡ 2) × (length hs ≡ 2)
 
--- out′ is out with f of each of ys in place of its first numbers, and r is how many of these are 0
+-- out′ is out with f of each of ys in place of its first numbers, and r is how
+-- many of these are 0
 pub record Judges (f : ℕ → ℕ) (ys out : List ℕ) (r : ℕ) (out′ : List ℕ) : Type 0 where
   pub count : r ≡ zeros (mapped f ys)
   pub memory : out′ ≡ mapped f ys ++ drop (length ys) out

@@ -1,4 +1,5 @@
-// The distances of a move over partitions, from how many of the groups about it each partition meets.
+// The distances of a move over partitions, from how many of the groups about
+// it each partition meets.
 ghost use Prim.Native.Nat.{_+_, _≤_, _-_};
 ghost use mathlib.Core.Path.{_≡_};
 ghost use mathlib.Core.Bool.{not};
@@ -67,7 +68,8 @@ fn minus(k: usize, m: usize) -> usize
     k - m
 }
 
-// How many more than two of the groups on gs meet y: two groups or fewer are not counted.
+// How many more than two of the groups on gs meet y: two groups or fewer are
+// not counted.
 fn above_two(gs: &[u64], y: u64) -> usize
     ensures { λ r. ⌜ r ≡ groups.met y (now (gs .entry)) - 2 ⌝ }
 {
@@ -77,7 +79,8 @@ fn above_two(gs: &[u64], y: u64) -> usize
     minus(count_met(gs, y), 2)
 }
 
-// The distance of an NNI over y, gs and hs being the groups at the two ends of its row: 2 where all four are met, else 0.
+// The distance of an NNI over y, gs and hs being the groups at the two ends of
+// its row: 2 where all four are met, else 0.
 fn around(gs: &[u64], hs: &[u64], y: u64) -> u64
     requires { ⌜ (length (now gs) ≡ 2) × (length (now hs) ≡ 2) ⌝ }
     ensures { λ r. ⌜ r ≡ pick (eqb (groups.met y (now (gs .entry)) + groups.met y (now (hs .entry))) 4) 2 0 ⌝ }
@@ -91,7 +94,8 @@ fn around(gs: &[u64], hs: &[u64], y: u64) -> u64
     2
 }
 
-// The distance over y by the rule: hs, of an SPR two groups at most, is tested first, so that gs is counted only where it matters.
+// The distance over y by the rule: hs, of an SPR two groups at most, is tested
+// first, so that gs is counted only where it matters.
 fn rule(gs: &[u64], hs: &[u64], y: u64) -> u64
     requires { ⌜ (length (now gs) ≤ 1000) × (length (now hs) ≤ 1000) ⌝ }
     ensures { λ r. ⌜ r ≡ groups.rule (groups.met y (now (gs .entry))) (groups.met y (now (hs .entry))) ⌝ }
@@ -106,7 +110,8 @@ fn rule(gs: &[u64], hs: &[u64], y: u64) -> u64
     2 * (minus(k, 2) + above_two(hs, y)) as u64
 }
 
-// The distance over y, from the groups gs and hs on the two sides; nni says which rule holds.
+// The distance over y, from the groups gs and hs on the two sides; nni says
+// which rule holds.
 pub fn distance(nni: bool, gs: &[u64], hs: &[u64], y: u64) -> u64
     requires { ⌜ Few nni (now gs) (now hs) ⌝ }
     ensures { λ r. ⌜ r ≡ byGroups nni (now (gs .entry)) (now (hs .entry)) y ⌝ }
@@ -117,7 +122,8 @@ pub fn distance(nni: bool, gs: &[u64], hs: &[u64], y: u64) -> u64
     rule(gs, hs, y)
 }
 
-// Writes the distance over each of ys at the start of out; of how many it is 0.
+// Writes the distance over each of ys at the start of out; of how many it is
+// 0.
 pub fn distance_each(nni: bool, gs: &[u64], hs: &[u64], ys: &[u64], out: &mut [u64]) -> usize
     requires { ⌜ (Few nni (now gs) (now hs)) × (length (now ys) ≤ length (now out)) ⌝ }
     ensures { λ r. ⌜ Judges (byGroups nni (now (gs .entry)) (now (hs .entry))) (now (ys .entry)) (now (out .entry)) r (now (out .exit)) ⌝ }

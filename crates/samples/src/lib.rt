@@ -1,4 +1,5 @@
-// The tables of document 01 and broken ones beside them, each once for the programs of cases.
+// The tables of document 01 and broken ones beside them, each once for the
+// programs of cases.
 
 // Tree S of document 01: taxa 0 to 5 along a line.
 pub const S: [u8; 18] = [0, 6, 1, 6, 6, 7, 2, 7, 7, 8, 3, 8, 8, 9, 4, 9, 5, 9];

@@ -16,12 +16,15 @@ pub record At (n : ℕ) (t : List ℕ) (e v : ℕ) : Type 0 where
   pub row : e < rows n
   pub touch : touches t e v ≡ true
 
--- the sides of e and of the rows with its end v are right in s′, and those that are right in s are kept
+-- the sides of e and of the rows with its end v are right in s′, and those
+-- that are right in s are kept
 pub record Filled (n : ℕ) (t : List ℕ) (e v : ℕ) (s s′ : List ℕ) : Type 0 where
   pub len : length s′ ≡ length s
-  pub keep : (r : ℕ) → r < rows n → getD s r 0 ≡ side n t r → getD s′ r 0 ≡ side n t r
+  pub keep : (r : ℕ) → r < rows n → getD s r 0 ≡ side n t r
+      → getD s′ r 0 ≡ side n t r
   pub here : getD s′ e 0 ≡ side n t e
-  pub inside : (r : ℕ) → r < rows n → has (part n t e v) (lo t r) ≡ true → getD s′ r 0 ≡ side n t r
+  pub inside : (r : ℕ) → r < rows n → has (part n t e v) (lo t r) ≡ true
+      → getD s′ r 0 ≡ side n t r
 
 -- s holds the side of every row
 pub record Sides (n : ℕ) (t : List ℕ) (s : List ℕ) : Type 0 where

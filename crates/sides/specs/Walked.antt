@@ -1,4 +1,5 @@
--- What the traversal of a table asks and leaves. The table has its rows, and may be no tree: the marks tell. Where it is one, the sides are right.
+-- What the traversal of a table asks and leaves. The table has its rows, and
+-- may be no tree: the marks tell. Where it is one, the sides are right.
 use Prim.Native.Nat.{ℕ, _^_, _%_, _<_}
 use mathlib.Core.Path.{_≡_}
 use mathlib.Core.Bool.{true, false}
@@ -33,13 +34,16 @@ pub record Walks (n : ℕ) (t a ms ss : List ℕ) (e v : ℕ) : Type 0 where
 
 -- no node with e's end v is marked
 abbrev pub Fresh : ℕ → List ℕ → ℕ → ℕ → List ℕ → Type 0
-Fresh n t e v ms = (u : ℕ) → u < nodes n → has (part n t e v) u ≡ true → mark ms u ≡ false
+Fresh n t e v ms =
+    (u : ℕ) → u < nodes n → has (part n t e v) u ≡ true → mark ms u ≡ false
 
--- s is the taxa with e's end v, the sides of the rows there are stored, and each new mark lies there
+-- s is the taxa with e's end v, the sides of the rows there are stored, and
+-- each new mark lies there
 pub record Told (n : ℕ) (t : List ℕ) (e v : ℕ) (ms ms′ ss ss′ : List ℕ) (s : ℕ) : Type 0 where
   pub taxa : s ≡ part n t e v % 2 ^ n
   pub filled : Filled n t e v ss ss′
-  pub within : (u : ℕ) → u < nodes n → mark ms u ≡ false → mark ms′ u ≡ true → has (part n t e v) u ≡ true
+  pub within : (u : ℕ) → u < nodes n → mark ms u ≡ false → mark ms′ u ≡ true
+      → has (part n t e v) u ≡ true
 
 -- v is visited; and in a tree with no mark there the sides are told
 pub record Walked (n : ℕ) (t : List ℕ) (e v : ℕ) (ms ms′ ss ss′ : List ℕ) (s : ℕ) : Type 0 where
@@ -47,7 +51,8 @@ pub record Walked (n : ℕ) (t : List ℕ) (e v : ℕ) (ms ms′ ss ss′ : List
   pub len : length ss′ ≡ length ss
   pub told : Accepted n t → Fresh n t e v ms → Told n t e v ms ms′ ss ss′ s
 
--- the answer is the tree's, and where it is a tree the arrays hold its rows at each node and its sides
+-- the answer is the tree's, and where it is a tree the arrays hold its rows at
+-- each node and its sides
 pub record Found (n : ℕ) (t : List ℕ) (c : Checked) (a s : List ℕ) : Type 0 where
   pub says : checkSays c ≡ treeSaid n t
   pub near : treeSaid n t ≡ gives tt → Near n t a

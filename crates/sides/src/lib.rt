@@ -1,4 +1,5 @@
-// The check of a tree, and with it the side of every row: one traversal from taxon 0 finds both.
+// The check of a tree, and with it the side of every row: one traversal from
+// taxon 0 finds both.
 ghost use Prim.Native.Nat.{_+_, _*_, _<_, _≤_};
 ghost use mathlib.Core.Path.{_≡_};
 ghost use lib.ListN.{length, set};
@@ -33,7 +34,9 @@ fn note(n: usize, t: &[u8], sides: &mut [u64; ROWS], e: usize, v: usize, s: u64)
     sides[e] = taxa::less(all, s);
 }
 
-// The taxa with row e's end v. Every node that can be reached there over nodes that are not marked yet is marked, and the sides of the rows there are stored.
+// The taxa with row e's end v. Every node that can be reached there over nodes
+// that are not marked yet is marked, and the sides of the rows there are
+// stored.
 fn walk(
     n: usize,
     t: &[u8],
@@ -82,7 +85,8 @@ fn all_marked(n: usize, marks: &[u8; NODES]) -> bool
     bad == 0
 }
 
-// Whether every node can be reached from node 0. Where it can, the side of every row is stored.
+// Whether every node can be reached from node 0. Where it can, the side of
+// every row is stored.
 fn all_reached(n: usize, t: &[u8], near: &[u8; near::PLACES], sides: &mut [u64; ROWS]) -> bool
     requires { ⌜ (Rowed n (now t)) × (Near n (now t) (now near)) × (length (now sides) ≡ rows most) ⌝ }
     ensures { λ b. ⌜ (b ≡ every (fromZero n (now (t .entry))) (nodes n)) × (Accepted n (now (t .entry)) → Sides n (now (t .entry)) (now (sides .exit))) ⌝ }
@@ -95,7 +99,8 @@ fn all_reached(n: usize, t: &[u8], near: &[u8; near::PLACES], sides: &mut [u64; 
     all_marked(n, &marks)
 }
 
-// The check of a tree; the rows at each node and the side of every row of one are left in the lent arrays.
+// The check of a tree; the rows at each node and the side of every row of one
+// are left in the lent arrays.
 pub fn look(n: usize, t: &[u8], near: &mut [u8; near::PLACES], sides: &mut [u64; ROWS]) -> Checked
     requires { ⌜ (now near ≡ noRows) × (length (now sides) ≡ rows most) ⌝ }
     ensures { λ r. ⌜ Found n (now (t .entry)) r (now (near .exit)) (now (sides .exit)) ⌝ }

@@ -193,7 +193,8 @@ pub splits-few : (n : ℕ) (t : List ℕ) (y : ℕ) → length (splits n t y) �
 unfolding splits
 splits-few n t y = splits-to-few n t y (rows n)
 
--- the comparison of what is written at the start of two lists is that of the two trees
+-- the comparison of what is written at the start of two lists is that of the
+-- two trees
 pub compared-lists : (n : ℕ) (t u : List ℕ) (y : ℕ) (a b : List ℕ) → a ≡ splits n t y → b ≡ splits n u y
     → _≡_ {A = ℕ × ℕ} (lacks a b + lacks b a, firstLack a b) (dist n t u y, missing n t u y)
 unfolding dist missing

@@ -1,4 +1,5 @@
--- What the two calls say at each test of the code, and that one answer and one state of the lent list meet each promise. Assumes nothing.
+-- What the two calls say at each test of the code, and that one answer and one
+-- state of the lent list meet each promise. Assumes nothing.
 use mathlib.Core.Path.{_≡_, sym, ap, ap₂, _∙_}
 use mathlib.Core.Bool.{true, false}
 use mathlib.Core.List.{List, [], _++_}

@@ -1,4 +1,5 @@
--- The list of splits from the sides of the rows, and a list written at the start of a lent one.
+-- The list of splits from the sides of the rows, and a list written at the
+-- start of a lent one.
 use Prim.Native.Nat.{ℕ, zero, suc}
 use mathlib.Core.Path.{_≡_}
 use mathlib.Core.List.{List, [], _++_}
@@ -16,7 +17,8 @@ unfoldable pub splitsOf : ℕ → ℕ → List ℕ → ℕ → List ℕ
 splitsOf n y ss zero = []
 splitsOf n y ss (suc k) = added (split n y (getD ss k 0)) (splitsOf n y ss k)
 
--- r is how many numbers l has, and out′ is out with l in place of its first numbers
+-- r is how many numbers l has, and out′ is out with l in place of its first
+-- numbers
 pub record Listed (l out : List ℕ) (r : ℕ) (out′ : List ℕ) : Type 0 where
   pub count : r ≡ length l
   pub memory : out′ ≡ l ++ drop r out

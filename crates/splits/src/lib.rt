@@ -1,4 +1,5 @@
-// The induced splits of a tree over a partition, and the comparison of two trees.
+// The induced splits of a tree over a partition, and the comparison of two
+// trees.
 ghost use Prim.Native.Nat.{_+_, _*_, _-_, _^_, _<_, _≤_};
 ghost use mathlib.Core.Path.{_≡_};
 ghost use lib.Bits.{bitAnd};
@@ -22,7 +23,8 @@ pub enum Induced {
     Refused(Refusal),
 }
 
-// The answer of a comparison: the distance, and the smallest number that the second tree lacks, or 0.
+// The answer of a comparison: the distance, and the smallest number that the
+// second tree lacks, or 0.
 pub enum Compared {
     Apart(usize, u64),
     Refused(Refusal),
@@ -50,7 +52,8 @@ fn add(out: &mut [u64], len: usize, x: u64) -> usize
     lists::insert(out, len, x)
 }
 
-// Lists the splits over y of the rows whose sides are given; how many there are.
+// Lists the splits over y of the rows whose sides are given; how many there
+// are.
 fn list(n: usize, sides: &[u64; sides::ROWS], y: u64, out: &mut [u64]) -> usize
     requires { ⌜ (4 ≤ n) × (n ≤ most) × (y < 2 ^ n) × (length (splitsOf n y (now sides) (rows n)) ≤ length (now out)) ⌝ }
     ensures { λ r. ⌜ Listed (splitsOf n y (now (sides .entry)) (rows n)) (now (out .entry)) r (now (out .exit)) ⌝ }
@@ -89,7 +92,8 @@ fn tree_splits(n: usize, t: &[u8], s: &[u64; sides::ROWS], y: u64, out: &mut [u6
     list(n, s, y, out)
 }
 
-// The same where the partition names none but the n taxa and the room suffices: refusals 6 and 11.
+// The same where the partition names none but the n taxa and the room
+// suffices: refusals 6 and 11.
 fn induced_tree(n: usize, t: &[u8], s: &[u64; sides::ROWS], y: u64, out: &mut [u64]) -> Induced
     requires { ⌜ (Accepted n (now t)) × (Sides n (now t) (now s)) ⌝ }
     ensures { λ r. ⌜ Induces n (now (t .entry)) y (now (out .entry)) r (now (out .exit)) ⌝ }
@@ -104,7 +108,8 @@ fn induced_tree(n: usize, t: &[u8], s: &[u64; sides::ROWS], y: u64, out: &mut [u
     Induced::Count(tree_splits(n, t, s, y, out))
 }
 
-// The induced splits of a tree over y, ascending, each once, written into out: refusals 1 to 6 and 11.
+// The induced splits of a tree over y, ascending, each once, written into out:
+// refusals 1 to 6 and 11.
 pub fn induced_splits(n: usize, t: &[u8], y: u64, out: &mut [u64]) -> Induced
     ensures { λ r. ⌜ Induces n (now (t .entry)) y (now (out .entry)) r (now (out .exit)) ⌝ }
 {
@@ -128,7 +133,8 @@ fn compare_lists(a: &[u64], b: &[u64]) -> Compared
     Compared::Apart(lost + gained, first)
 }
 
-// The comparison over y of the tree t, whose sides are a, and the tree u, whose are b.
+// The comparison over y of the tree t, whose sides are a, and the tree u,
+// whose are b.
 fn compare_trees(
     n: usize,
     t: &[u8],
@@ -166,7 +172,8 @@ fn compare_second(n: usize, t: &[u8], a: &[u64; sides::ROWS], u: &[u8], y: u64) 
     }
 }
 
-// The comparison of two trees over y: refusals 1, 2 to 5 of the first, 2 to 5 of the second, and 6.
+// The comparison of two trees over y: refusals 1, 2 to 5 of the first, 2 to 5
+// of the second, and 6.
 pub fn compare(n: usize, t: &[u8], u: &[u8], y: u64) -> Compared
     ensures { λ r. ⌜ compareSays r ≡ comparedSaid n (now (t .entry)) (now (u .entry)) y ⌝ }
 {

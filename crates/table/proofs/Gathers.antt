@@ -1,4 +1,5 @@
--- A byte that gathers what fails is 0 exactly where every test passed. Assumes nothing.
+-- A byte that gathers what fails is 0 exactly where every test passed. Assumes
+-- nothing.
 use mathlib.Core.Path.{_≡_, refl, ap₂, _∙_}
 use mathlib.Core.Bool.{Bool, true, false, not, _&&_}
 use Prim.Native.Nat.{ℕ, _+_}

@@ -1,4 +1,5 @@
--- A refusal is settled by its number, and the answer of a check by what it says. Assumes nothing.
+-- A refusal is settled by its number, and the answer of a check by what it
+-- says. Assumes nothing.
 use mathlib.Core.Path.{_≡_, refl, sym, ap, _∙_}
 use Prim.Native.Nat.{ℕ, zero, suc}
 use native.Mathlib.Omega.{arith}

@@ -1,4 +1,5 @@
--- Whether each row's ends are nodes, the smaller first, told byte by byte. Assumes nothing.
+-- Whether each row's ends are nodes, the smaller first, told byte by byte.
+-- Assumes nothing.
 use mathlib.Core.Path.{_≡_, refl, sym, ap, ap₂, _∙_}
 use mathlib.Core.Logic.{_⊎_, inl, inr}
 use mathlib.Core.Bool.{Bool, true, false, not, _&&_, _||_, Bool·not-not}
@@ -30,7 +31,8 @@ even-only p (suc zero) l = ap (λ (x : ℕ). eqb x 0) (and-zero-r (boolByte p))
 even-only p (suc (suc k)) l = absurd (omega arith)
 
 module _ (n : ℕ) (t : List ℕ) where
-  -- The byte after byte j is no more than the highest node, and where byte j is a row's first end it is the higher of the two.
+  -- The byte after byte j is no more than the highest node, and where byte j
+  -- is a row's first end it is the higher of the two.
   abbrev pub fine : ℕ → Bool
   fine j = (eqb (j % 2) 1 || ltb (getD t j 0) (getD t (j + 1) 0)) && leb (getD t (j + 1) 0) (rows n)
 
@@ -69,7 +71,8 @@ module _ (n : ℕ) (t : List ℕ) where
   fine-row r h =
       ap (λ (p : Bool). (p || ltb (lo t r) (hi t r)) && leb (hi t r) (rows n)) (sym (ne-eqb (2 * r % 2) 1 (λ e. omega arith))) ∙ h
 
-  -- the last byte has none after it, so there is one test less than there are bytes
+  -- the last byte has none after it, so there is one test less than there are
+  -- bytes
   pub every-fine : (k : ℕ) → k + 1 ≡ 2 * rows n → every fine k ≡ every (inOrder n t) (rows n)
   every-fine k e =
       bool-eq (every fine k) (every (inOrder n t) (rows n))

@@ -1,4 +1,5 @@
--- What is known of a table when some of the checks have passed, and what the counts of rows hold.
+-- What is known of a table when some of the checks have passed, and what the
+-- counts of rows hold.
 use Prim.Native.Nat.{ℕ, _*_, _≤_, _<_}
 use mathlib.Core.Path.{_≡_}
 use mathlib.Core.Bool.{Bool, _||_}

@@ -2,7 +2,12 @@
 use Prim.Native.Nat.{ℕ}
 use Rattle.tree.specs.Refusals.{Said, gives, refuses}
 use Rattle.table.specs.declared.Refusal.{Refusal}
-use Rattle.table.specs.declared.Refusal.the-variants.{Count, Length, Ends, Degree, Unreached, Partition, Kind, Row, Misfit, Idle, Room, Field, Long}
+use Rattle.table.specs.declared.Refusal.the-variants.{Count, Length}
+use Rattle.table.specs.declared.Refusal.the-variants.{Ends, Degree}
+use Rattle.table.specs.declared.Refusal.the-variants.{Unreached}
+use Rattle.table.specs.declared.Refusal.the-variants.{Partition, Kind}
+use Rattle.table.specs.declared.Refusal.the-variants.{Row, Misfit, Idle}
+use Rattle.table.specs.declared.Refusal.the-variants.{Room, Field, Long}
 use Rattle.table.specs.declared.Checked.{Checked}
 use Rattle.table.specs.declared.Checked.the-variants.{Tree, Refused}
 

@@ -1,4 +1,5 @@
-// The tree table in bytes: its rows, the refusals of document 01, and the checks 1 to 4.
+// The tree table in bytes: its rows, the refusals of document 01, and the
+// checks 1 to 4.
 ghost use Prim.Native.Nat.{_+_, _*_, _-_, _<_, _≤_};
 ghost use mathlib.Core.Path.{_≡_};
 ghost use lib.Dec.{eqb};
@@ -96,7 +97,9 @@ pub fn touches(t: &[u8], r: usize, v: usize) -> bool
     hi(t, r) == v
 }
 
-// Whether each row's ends are nodes, the smaller first; each byte is held against the next, and their order counts at even places, the first ends, so that a processor takes 16 bytes at a time.
+// Whether each row's ends are nodes, the smaller first; each byte is held
+// against the next, and their order counts at even places, the first ends, so
+// that a processor takes 16 bytes at a time.
 fn ordered(n: usize, t: &[u8]) -> bool
     requires { ⌜ (4 ≤ n) × (n ≤ most) × (length (now t) ≡ 2 * rows n) ⌝ }
     ensures { λ b. ⌜ b ≡ every (inOrder n (now (t .entry))) (rows n) ⌝ }
@@ -134,7 +137,8 @@ fn degrees(n: usize, t: &[u8]) -> [u8; NODES]
     d
 }
 
-// Whether each node from `from` to below `to` is at k rows; with one test at the end, so that a processor takes 16 nodes at a time.
+// Whether each node from `from` to below `to` is at k rows; with one test at
+// the end, so that a processor takes 16 nodes at a time.
 fn all_at(d: &[u8; NODES], from: usize, to: usize, k: u8) -> bool
     requires { ⌜ (from ≤ to) × (to ≤ nodes most) ⌝ }
     ensures { λ b. ⌜ b ≡ every (hasFrom (now (d .entry)) from k) to ⌝ }
@@ -148,7 +152,8 @@ fn all_at(d: &[u8; NODES], from: usize, to: usize, k: u8) -> bool
     bad == 0
 }
 
-// Whether each node is at as many rows as it must be: a taxon at one, an inner node at three.
+// Whether each node is at as many rows as it must be: a taxon at one, an inner
+// node at three.
 fn degrees_right(n: usize, d: &[u8; NODES]) -> bool
     requires { ⌜ (4 ≤ n) × (n ≤ most) ⌝ }
     ensures { λ b. ⌜ b ≡ every (λ v. eqb (getD (now (d .entry)) v 0) (tree_spec.wanted n v)) (nodes n) ⌝ }

@@ -1,4 +1,5 @@
--- Membership: of the bit operations, of a power of two, of all bits below n; sets are equal by their members; the lowest member.
+-- Membership: of the bit operations, of a power of two, of all bits below n;
+-- sets are equal by their members; the lowest member.
 -- Assumes nothing.
 use mathlib.Core.Path.{_≡_, refl, sym, ap, ap₂, _∙_, subst}
 use mathlib.Core.Logic.{_⊎_, inl, inr}
@@ -241,7 +242,8 @@ none-zero s h = ext s 0 (λ i. go i (either (has s i)) ∙ sym (has-none i))
     go i (inl p) = absurd (h i p)
     go i (inr p) = p
 
--- a set that has a member below no k is empty, so one that is not empty has one
+-- a set that has a member below no k is empty, so one that is not empty has
+-- one
 pub some-by : (s : ℕ) → (some s ≡ false → ⊥) → some s ≡ true
 some-by s h = go (either (some s))
   where

@@ -1,4 +1,5 @@
--- A union names none but the n taxa exactly where both of its sets do. Assumes nothing.
+-- A union names none but the n taxa exactly where both of its sets do. Assumes
+-- nothing.
 use mathlib.Core.Path.{_≡_}
 use mathlib.Core.Bool.{true, _&&_}
 use Prim.Native.Nat.{ℕ, _^_, _<_}

@@ -1,4 +1,5 @@
--- What the machine's operations on a word say of the set that it stands for. Assumes nothing.
+-- What the machine's operations on a word say of the set that it stands for.
+-- Assumes nothing.
 use mathlib.Core.Path.{_≡_, refl, sym, ap, ap₂, _∙_}
 use mathlib.Core.Logic.{_⊎_, inl, inr}
 use mathlib.Core.Bool.{true, false}

@@ -1,4 +1,5 @@
--- Sets of taxa, and of nodes, as numbers: i is a member of s where bit i of s is 1. Nothing here knows a width.
+-- Sets of taxa, and of nodes, as numbers: i is a member of s where bit i of s
+-- is 1. Nothing here knows a width.
 use Prim.Native.Nat.{ℕ, zero, suc, _+_, _/_, _%_, _^_, _-_}
 use mathlib.Core.Path.{_≡_}
 use mathlib.Core.Bool.{Bool, true, false, not}

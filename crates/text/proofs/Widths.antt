@@ -1,4 +1,5 @@
--- A number's decimal digits are as many as `io::decimal` answers, and lines have few bytes. Assumes nothing.
+-- A number's decimal digits are as many as `io::decimal` answers, and lines
+-- have few bytes. Assumes nothing.
 use mathlib.Core.Path.{_≡_, refl, ap, sym, _∙_}
 use mathlib.Core.Bool.{Bool, true, false}
 use mathlib.Core.List.{[], _∷_, _++_}

@@ -1,4 +1,5 @@
--- Numbers and lines as text, in bytes: decimal without leading zeros, one blank between, one line feed after each line.
+-- Numbers and lines as text, in bytes: decimal without leading zeros, one
+-- blank between, one line feed after each line.
 use Prim.Native.Nat.{ℕ, zero, suc, _+_, _*_, _/_}
 use mathlib.Core.List.{List, [], _∷_, _++_}
 use lib.Dec.{eqb, ltb, leb}
@@ -21,7 +22,8 @@ blank = 32 ∷ []
 abbrev pub feed : List ℕ
 feed = 10 ∷ []
 
--- ` same 0` with its line feed, ` changed `, ` saved `, `end `, `refused ` and ` at `.
+-- ` same 0` with its line feed, ` changed `, ` saved `, `end `, `refused ` and
+-- ` at `.
 unfoldable pub sameWord : List ℕ
 sameWord = 32 ∷ 115 ∷ 97 ∷ 109 ∷ 101 ∷ 32 ∷ 48 ∷ 10 ∷ []
 
@@ -61,17 +63,22 @@ bin s k = binFrom 9 1 s k
 
 -- `none` for s = 0, `full` for s = k partitions, between them `pt1` to `pt10`.
 unfoldable pub className : ℕ → ℕ → List ℕ
-className s k = pick (eqb s 0) noneWord (pick (eqb s k) fullWord (ptWord ++ decimal (bin s k)))
+className s k =
+    pick (eqb s 0) noneWord (pick (eqb s k) fullWord (ptWord ++ decimal (bin s k)))
 
 -- ---- the lines
 
--- `m p same 0` or `m p changed d`: move number, partition number, word, distance.
+-- `m p same 0` or `m p changed d`: move number, partition number, word,
+-- distance.
 unfoldable pub verdictLine : ℕ → ℕ → ℕ → List ℕ
-verdictLine m p d = decimal m ++ blank ++ decimal p ++ pick (eqb d 0) sameWord (changedWord ++ decimal d ++ feed)
+verdictLine m p d =
+    decimal m ++ blank ++ decimal p ++ pick (eqb d 0) sameWord (changedWord ++ decimal d ++ feed)
 
--- `m saved s t`: s counts the partitions that are the same, t is the terrace class.
+-- `m saved s t`: s counts the partitions that are the same, t is the terrace
+-- class.
 unfoldable pub savedLine : ℕ → ℕ → ℕ → List ℕ
-savedLine m s k = decimal m ++ savedWord ++ decimal s ++ blank ++ className s k ++ feed
+savedLine m s k =
+    decimal m ++ savedWord ++ decimal s ++ blank ++ className s k ++ feed
 
 -- `end M`.
 unfoldable pub endLine : ℕ → List ℕ

@@ -1,4 +1,5 @@
--- Plain text: whole lines of ASCII, each with one line feed and no blank at its end.
+-- Plain text: whole lines of ASCII, each with one line feed and no blank at
+-- its end.
 use Prim.Native.Nat.{ℕ, _<_}
 use mathlib.Core.Path.{_≡_}
 use mathlib.Core.Bool.{Bool, true, _&&_}
@@ -12,7 +13,8 @@ shown (c ∷ w) = leb 32 c && ltb c 127 && shown w
 
 -- One line: such bytes, the last of them no blank, then one line feed.
 pub data Line : List ℕ → Type 0 where
-  ended : (w : List ℕ) (c : ℕ) → shown w ≡ true → 32 < c → c < 127 → Line (w ++ c ∷ 10 ∷ [])
+  ended : (w : List ℕ) (c : ℕ) → shown w ≡ true → 32 < c → c < 127
+      → Line (w ++ c ∷ 10 ∷ [])
 
 -- Lines, one after another.
 pub data Plain : List ℕ → Type 0 where

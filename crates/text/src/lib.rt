@@ -1,4 +1,5 @@
-// Numbers and lines as text: each writer puts its bytes at the start of what is lent to it, and nothing after them.
+// Numbers and lines as text: each writer puts its bytes at the start of what
+// is lent to it, and nothing after them.
 ghost use Prim.Native.Nat.{_+_, _≤_};
 ghost use mathlib.Core.Path.{_≡_};
 ghost use lib.ListN.{length};
@@ -57,7 +58,8 @@ fn class_bin(s: u64, k: u64) -> u64
     i
 }
 
-// Writes the terrace class of s of k partitions from place at on; where it ends.
+// Writes the terrace class of s of k partitions from place at on; where it
+// ends.
 fn then_class(s: u64, k: u64, out: &mut [u8], at: usize) -> usize
     requires { ⌜ (s ≤ 64) × (k ≤ 64) × (at + length (className s k) ≤ length (now out)) ⌝ }
     ensures { λ r. ⌜ (r ≡ at + length (className s k)) × (now (out .exit) ≡ placed (now (out .entry)) at (className s k)) ⌝ }
@@ -73,7 +75,8 @@ fn then_class(s: u64, k: u64, out: &mut [u8], at: usize) -> usize
     then_number(i, out, e)
 }
 
-// Writes the line of a move and a partition: `m p same 0` or `m p changed d`; how many bytes.
+// Writes the line of a move and a partition: `m p same 0` or `m p changed d`;
+// how many bytes.
 pub fn verdict_line(m: u64, p: u64, d: u64, out: &mut [u8]) -> usize
     requires { ⌜ length (verdictLine m p d) ≤ length (now out) ⌝ }
     ensures { λ r. ⌜ (r ≡ length (verdictLine m p d)) × (now (out .exit) ≡ putFirst (verdictLine m p d) (now (out .entry))) ⌝ }

@@ -1,5 +1,7 @@
--- In a connected table each row parts its two ends: what is reached from its first end by the other rows does not hold the second.
--- The count: each row but e adds one node at most, so with all but one of the rows not all nodes are reached. Assumes nothing.
+-- In a connected table each row parts its two ends: what is reached from its
+-- first end by the other rows does not hold the second.
+-- The count: each row but e adds one node at most, so with all but one of the
+-- rows not all nodes are reached. Assumes nothing.
 use mathlib.Core.Path.{_≡_, refl, sym, ap, ap₂, _∙_, subst}
 use mathlib.Core.Logic.{_⊎_, inl, inr}
 use mathlib.Core.Bool.{Bool, true, false, not, _&&_, _||_, false≢true}

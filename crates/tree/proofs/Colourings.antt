@@ -1,4 +1,5 @@
--- Colourings: sets of nodes that one row alone leaves. A row's colouring is settled by the end that it holds, so it is that end's part.
+-- Colourings: sets of nodes that one row alone leaves. A row's colouring is
+-- settled by the end that it holds, so it is that end's part.
 -- Two rows of one tree never cross. Assumes nothing.
 use mathlib.Core.Path.{_≡_, refl, sym, ap, ap₂, _∙_, subst}
 use mathlib.Core.Logic.{_⊎_, inl, inr}
@@ -20,7 +21,8 @@ pub record Parts (n : ℕ) (t : List ℕ) (e s : ℕ) : Type 0 where
   pub apart : has s (lo t e) ≡ not (has s (hi t e))
   pub closed : Flat t e (rows n) (has s)
 
--- what hangs from node p by row x: a set that row x alone leaves, without x's end p
+-- what hangs from node p by row x: a set that row x alone leaves, without x's
+-- end p
 pub record Hangs (n : ℕ) (t : List ℕ) (x p s : ℕ) : Type 0 where
   pub parts : Parts n t x s
   pub out : has s p ≡ false
@@ -85,7 +87,8 @@ module _ (n : ℕ) (t : List ℕ) (e u v : ℕ) (vt : Valid n t) (le : e < rows 
     closed = part-flat n t e u (valid-table n t vt .ends) (joins-nodes n t e vt le u v j .0);
   }
 
-  -- a set that is closed but for row e and holds of its ends u alone is u's part
+  -- a set that is closed but for row e and holds of its ends u alone is u's
+  -- part
   pub part-is : (s : ℕ) → Parts n t e s → has s u ≡ true → (i : ℕ) → i < nodes n → has (part n t e u) i ≡ has s i
   part-is s p h i l =
       let w = parts-unique n t e (part n t e u) s (vt .connected) (vt .big) part-parts p in
@@ -130,7 +133,8 @@ unfolding same
 same-not true = refl
 same-not false = refl
 
--- The empty corner is the one that lies away from the other row in each set: c is s's colour at r′, c′ is s′'s colour at r.
+-- The empty corner is the one that lies away from the other row in each set: c
+-- is s's colour at r′, c′ is s′'s colour at r.
 module _ (n : ℕ) (t : List ℕ) (r r′ s s′ : ℕ) (tab : Table n t) (h : r < rows n) (h′ : r′ < rows n) (d : r ≡ r′ → ⊥) (a : Parts n t r s) (b : Parts n t r′ s′) where
   f : ℕ → Bool
   f i = same (has s i) (has s (lo t r′)) || same (has s′ i) (has s′ (lo t r))

@@ -1,5 +1,7 @@
--- Where Y has two taxa and x is one more, some split over Y comes from two rows that x tells apart.
--- The walk goes from x away to the first node at which Y is parted: its two rows ahead are the two. Assumes nothing.
+-- Where Y has two taxa and x is one more, some split over Y comes from two
+-- rows that x tells apart.
+-- The walk goes from x away to the first node at which Y is parted: its two
+-- rows ahead are the two. Assumes nothing.
 use mathlib.Core.Path.{_≡_, refl, sym, ap, ap₂, _∙_}
 use mathlib.Core.Logic.{_⊎_, inl, inr}
 use mathlib.Core.Bool.{Bool, true, false, not, _&&_, _||_, true≢false, or-false}

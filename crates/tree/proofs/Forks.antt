@@ -1,4 +1,5 @@
--- An inner node and its three rows: what lies with the node, one of the rows taken away, is what hangs by the two others, and the node itself.
+-- An inner node and its three rows: what lies with the node, one of the rows
+-- taken away, is what hangs by the two others, and the node itself.
 -- A taxon lies alone on its side. Assumes nothing.
 use mathlib.Core.Path.{_≡_, refl, sym, ap, ap₂, _∙_}
 use mathlib.Core.Logic.{_⊎_, inl, inr}
@@ -105,7 +106,8 @@ module _ (n : ℕ) (t : List ℕ) (p e x f q a c : ℕ) (k : Fork n t p e x f q 
   pub joined-at : (i : ℕ) → i < n → has (joined A B p) i ≡ (has A i || has B i)
   joined-at i h = has-joined A B p i ∙ ap (λ (b : Bool). has A i || has B i || b) (ne-eqb p i (λ d. omega (arith, k .inner))) ∙ or-false (has A i || has B i)
 
--- p with rows a, x and y and no other, where x and y are f and g in either order
+-- p with rows a, x and y and no other, where x and y are f and g in either
+-- order
 pub fork-of : (n : ℕ) (t : List ℕ) (a p f g : ℕ) → Valid n t → a < rows n → touches t a p ≡ true → n ≤ p → Pair n t a p f g
     → Fork n t p a f g (far t a p) (far t f p) (far t g p)
 fork-of n t a p f g v ha ta ip k =

@@ -1,5 +1,7 @@
--- A set of taxa and the same with one taxon x more: what the splits over the larger set say of those over the smaller.
--- All but x's own split cut down to splits. One split at most is cut down from two. Assumes nothing.
+-- A set of taxa and the same with one taxon x more: what the splits over the
+-- larger set say of those over the smaller.
+-- All but x's own split cut down to splits. One split at most is cut down from
+-- two. Assumes nothing.
 use mathlib.Core.Path.{_≡_, refl, sym, ap, ap₂, _∙_}
 use mathlib.Core.Logic.{_⊎_, inl, inr}
 use mathlib.Core.Bool.{Bool, true, false, not, _&&_, _||_, true≢false}
@@ -68,7 +70,8 @@ unfolding flips
 split-none n y = ext (split n y 0) 0 (λ i.
     has-split n y 0 i ∙ ap₂ (λ (p q : Bool). has y i && (p ⊕ q)) (has-none (lowest n y)) (has-none i) ∙ and-false-r (has y i) ∙ sym (has-none i))
 
--- equal splits come from sets that are the same over y, or each other's complement
+-- equal splits come from sets that are the same over y, or each other's
+-- complement
 pub split-same : (n y s s′ : ℕ) → split n y s ≡ split n y s′ → (d : Bool) × ((i : ℕ) → has y i ≡ true → has s i ≡ (d ⊕ has s′ i))
 split-same n y s s′ e = (
   flips n y s ⊕ flips n y s′,

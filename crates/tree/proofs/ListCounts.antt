@@ -1,4 +1,5 @@
--- Counting the members of a list: one exception more is one member less, and a list that goes into another one to one is no longer.
+-- Counting the members of a list: one exception more is one member less, and a
+-- list that goes into another one to one is no longer.
 -- Assumes nothing.
 use mathlib.Core.Path.{_≡_, refl, sym, ap, ap₂, _∙_}
 use mathlib.Core.Logic.{_⊎_, inl, inr}
@@ -46,7 +47,8 @@ pub record Left (xs ys : List ℕ) (x : ℕ) : Type 0 where
   pub there : mem x xs ≡ true
   pub free : mem x ys ≡ false
 
--- where f takes what is left of xs into zs one to one, no more is left of xs than zs has members
+-- where f takes what is left of xs into zs one to one, no more is left of xs
+-- than zs has members
 pub lacks-inj : (f : ℕ → ℕ) (xs ys zs : List ℕ) → Distinct xs → ((x : ℕ) → Left xs ys x → mem (f x) zs ≡ true)
     → ((x x′ : ℕ) → Left xs ys x → Left xs ys x′ → f x ≡ f x′ → x ≡ x′) → lacks xs ys ≤ lacks zs []
 unfolding lacks mem

@@ -132,7 +132,8 @@ asc-distinct (x ∷ xs) h = (go (mem x xs) refl, asc-distinct xs (h .1))
     go true e = let l = h .0 x e in absurd (omega arith)
     go false e = refl
 
--- what xs lacks of ys is no more than what zs lacks of ws, where f takes some of the latter to each of the former
+-- what xs lacks of ys is no more than what zs lacks of ws, where f takes some
+-- of the latter to each of the former
 pub lacks-le′ : (f : ℕ → ℕ) (xs ys zs ws : List ℕ) → Distinct xs
     → ((x : ℕ) → mem x xs ≡ true → mem x ys ≡ false → (z : ℕ) × (mem z zs ≡ true) × (mem z ws ≡ false) × (f z ≡ x))
     → lacks xs ys ≤ lacks zs ws
@@ -254,7 +255,8 @@ distinct-append (l ∷ ls) bs d e h = (
     at (inl q) = true≢false (sym q ∙ d .0)
     at (inr q) = h l (ap (λ (b : Bool). b || mem l ls) (eq-eqb l l refl)) q
 
--- where nothing lost comes back, and what is lost second was there at first, the two numbers add
+-- where nothing lost comes back, and what is lost second was there at first,
+-- the two numbers add
 pub lacks-add : (xs ys zs : List ℕ) → Asc xs → Asc ys → ((x : ℕ) → mem x xs ≡ true → mem x ys ≡ false → mem x zs ≡ true → ⊥)
     → ((x : ℕ) → mem x ys ≡ true → mem x zs ≡ false → mem x xs ≡ true) → lacks xs zs ≡ lacks xs ys + lacks ys zs
 lacks-add xs ys zs ax ay gone there =

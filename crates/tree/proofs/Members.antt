@@ -1,5 +1,7 @@
--- How many splits a valid table has over a set of m taxa: none for m below 2, one for 2, and 2m-3 from 3 on.
--- The set is built up taxon by taxon. Each taxon from the third on adds two splits: its own, and one more lift of the one split that has two.
+-- How many splits a valid table has over a set of m taxa: none for m below 2,
+-- one for 2, and 2m-3 from 3 on.
+-- The set is built up taxon by taxon. Each taxon from the third on adds two
+-- splits: its own, and one more lift of the one split that has two.
 -- Assumes nothing.
 use mathlib.Core.Path.{_≡_, refl, sym, ap, ap₂, _∙_}
 use mathlib.Core.Logic.{_⊎_, inl, inr}
@@ -100,7 +102,8 @@ module _ (n : ℕ) (t : List ℕ) (Y Y′ x : ℕ) (G : Grown n t Y Y′ x) wher
       go z h (inl q) = or-left (eqb z mine) false q
       go z h (inr q) = absurd (false≢true (none-lacks (splits n t Y) [] (lacks-nil (splits n t Y) ∙ e) (split n Y z) (down n t Y Y′ x G z h (eqb-false z mine q))))
 
-  -- z₁ and x's own are two splits more, where z₀ and z₁ are two lifts of one split
+  -- z₁ and x's own are two splits more, where z₀ and z₁ are two lifts of one
+  -- split
   module _ (a : ℕ) (ya : has Y a ≡ true) (z₀ z₁ : ℕ) (T : Twice n t Y Y′ z₀ z₁) where
     besides : List ℕ
     besides = mine ∷ z₁ ∷ []

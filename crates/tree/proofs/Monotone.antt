@@ -1,6 +1,9 @@
--- Demand 3: the distance over a set of taxa is no more than over a larger set, for any two tables. Nothing about trees is used.
--- A split over the smaller set that the one table has and the other lacks comes from one over the larger set, by the same row; the other table
--- lacks that one too, or cutting it down would give the first. Different ones come from different ones, since cutting down gives them back.
+-- Demand 3: the distance over a set of taxa is no more than over a larger set,
+-- for any two tables. Nothing about trees is used.
+-- A split over the smaller set that the one table has and the other lacks
+-- comes from one over the larger set, by the same row; the other table
+-- lacks that one too, or cutting it down would give the first. Different ones
+-- come from different ones, since cutting down gives them back.
 -- Assumes nothing.
 use mathlib.Core.Path.{_≡_, sym, ap, _∙_}
 use mathlib.Core.Logic.{_⊎_, inl, inr, _↔_}

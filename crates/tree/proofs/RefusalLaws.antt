@@ -1,4 +1,5 @@
--- What it means that checks pass: the answer is given; a table that no check refuses is valid, and the other way round. Assumes nothing.
+-- What it means that checks pass: the answer is given; a table that no check
+-- refuses is valid, and the other way round. Assumes nothing.
 use mathlib.Core.Path.{_≡_, refl, sym, ap, _∙_}
 use mathlib.Core.Logic.{_⊎_, inl, inr, _↔_}
 use mathlib.Core.Bool.{Bool, true, false, true≢false, false≢true}
@@ -100,6 +101,7 @@ accepted-pass n t a =
     right v l (inl w) = eq-eqb (degree n t v) (wanted n v) (a .valid .leaf v (ltb-true v n w) ∙ sym (ap (λ (x : Bool). pick x 1 3) w))
     right v l (inr w) = eq-eqb (degree n t v) (wanted n v) (a .valid .inner v (ltb-false v n w) l ∙ sym (ap (λ (x : Bool). pick x 1 3) w))
 
--- the checks 1 to 5 refuse nothing exactly where the table is valid and has no more taxa than the most
+-- the checks 1 to 5 refuse nothing exactly where the table is valid and has no
+-- more taxa than the most
 pub accepted-iff : (n : ℕ) (t : List ℕ) → (treeSaid n t ≡ gives tt) ↔ Accepted n t
 accepted-iff n t = (λ h. pass-accepted n t (gives-pass (treeChecks n t) tt tt h), λ a. judged-all (treeChecks n t) tt (accepted-pass n t a))

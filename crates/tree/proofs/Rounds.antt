@@ -1,4 +1,5 @@
--- What the rounds collect: they only add, they come to rest, and they reach exactly the nodes that a chain of rows joins.
+-- What the rounds collect: they only add, they come to rest, and they reach
+-- exactly the nodes that a chain of rows joins.
 -- Assumes nothing.
 use mathlib.Core.Path.{_≡_, refl, sym, ap, _∙_, subst}
 use mathlib.Core.Logic.{_⊎_, inl, inr, _↔_}

@@ -70,7 +70,8 @@ count-find P (suc k) h = go (count-find P k) (P k) refl h
 pub count-none : (P : ℕ → Bool) (k : ℕ) → count P k ≡ 0 → (r : ℕ) → r < k → P r ≡ true → ⊥
 count-none P k e r h p = omega (arith, count-drop P r k p h)
 
--- of three rows that pass, with two of them given, the third, and that there is no other
+-- of three rows that pass, with two of them given, the third, and that there
+-- is no other
 pub third : (P : ℕ → Bool) (m e x : ℕ) → count P m ≡ 3 → e < m → x < m → (e ≡ x → ⊥) → P e ≡ true → P x ≡ true
     → (f : ℕ) × (f < m) × (P f ≡ true) × (f ≡ e → ⊥) × (f ≡ x → ⊥)
     × ((r : ℕ) → r < m → (r ≡ e → ⊥) → (r ≡ x → ⊥) → (r ≡ f → ⊥) → P r ≡ true → ⊥)

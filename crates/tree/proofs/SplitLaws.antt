@@ -1,4 +1,5 @@
--- Laws of a row's split over y. What depends on which of the two sides is written stands in the first section; all else follows from it.
+-- Laws of a row's split over y. What depends on which of the two sides is
+-- written stands in the first section; all else follows from it.
 -- Assumes nothing.
 use mathlib.Core.Path.{_≡_, refl, sym, ap, ap₂, _∙_}
 use mathlib.Core.Logic.{_⊎_, inl, inr}
@@ -22,7 +23,8 @@ use Rattle.tree.proofs.Colourings.{Parts, parts-unique, row-parts}
 
 -- ---- which side is written
 
--- sets that agree on y, or disagree on all of it, have one and the same side written
+-- sets that agree on y, or disagree on all of it, have one and the same side
+-- written
 flips-eq : (n y s s′ i : ℕ) (d : Bool) → y < 2 ^ n → has y i ≡ true → ((j : ℕ) → has y j ≡ true → has s j ≡ (d ⊕ has s′ j)) → flips n y s ≡ (d ⊕ flips n y s′)
 unfolding flips
 flips-eq n y s s′ i d bound h same = same (lowest n y) (has-lowest n y i (has-below n y i bound h) h)

@@ -13,7 +13,8 @@ mem x (y ∷ ys) = eqb x y || mem x ys
 -- x put in its place of an ascending list, once
 unfoldable pub insert : ℕ → List ℕ → List ℕ
 insert x [] = x ∷ []
-insert x (y ∷ ys) = pick (ltb x y) (x ∷ y ∷ ys) (pick (eqb x y) (y ∷ ys) (y ∷ insert x ys))
+insert x (y ∷ ys) =
+    pick (ltb x y) (x ∷ y ∷ ys) (pick (eqb x y) (y ∷ ys) (y ∷ insert x ys))
 
 -- how many of xs are not on ys
 unfoldable pub lacks : List ℕ → List ℕ → ℕ

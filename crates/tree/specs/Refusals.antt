@@ -1,17 +1,20 @@
--- Refusal numbers, and the order in which the checks run. A check is a test with the number that a call is refused with where the test fails.
+-- Refusal numbers, and the order in which the checks run. A check is a test
+-- with the number that a call is refused with where the test fails.
 use Prim.Native.Nat.{ℕ, _*_, _^_, _≤_}
 use mathlib.Core.Bool.{Bool, true, false, _&&_}
 use mathlib.Core.List.{List, [], _∷_, _++_}
 use lib.Dec.{eqb, ltb, leb}
 use lib.ListN.{length, drop}
 use Rattle.taxa.specs.Most.{most, mostPartitions}
-use Rattle.tree.specs.Tree.{rows, nodes, inOrder, rightDegree, fromZero, every, Valid}
+use Rattle.tree.specs.Tree.{rows, nodes, inOrder, rightDegree, fromZero}
+use Rattle.tree.specs.Tree.{every, Valid}
 
 infixr 20 _else_
 pub data Check : Type 0 where
   _else_ : Bool → ℕ → Check
 
--- What a call says: its answer, or the number of a refusal and nothing besides.
+-- What a call says: its answer, or the number of a refusal and nothing
+-- besides.
 pub data Said (A : Type 0) : Type 0 where
   gives : A → Said A
   refuses : ℕ → Said A
@@ -22,7 +25,8 @@ judged [] a = gives a
 judged ((true else k) ∷ cs) a = judged cs a
 judged ((false else k) ∷ cs) a = refuses k
 
--- A lent list after a call that writes a list: its first numbers are the answer's, and a refusal changes none.
+-- A lent list after a call that writes a list: its first numbers are the
+-- answer's, and a refusal changes none.
 abbrev pub written : Said (List ℕ) → List ℕ → List ℕ
 written (gives l) out = l ++ drop (length l) out
 written (refuses k) out = out
@@ -31,7 +35,8 @@ written (refuses k) out = out
 abbrev pub countChecks : ℕ → List Check
 countChecks n = ((leb 4 n && leb n most) else 1) ∷ []
 
--- 2: the table is not 2(2n-3) numbers long. 3: a row has an end above 2n-3, or its first end is not the smaller.
+-- 2: the table is not 2(2n-3) numbers long. 3: a row has an end above 2n-3, or
+-- its first end is not the smaller.
 -- 4: a node has the wrong number of rows.
 abbrev pub rowChecks : ℕ → List ℕ → List Check
 rowChecks n t =
@@ -57,11 +62,14 @@ unfoldable pub each : (ℕ → Bool) → List ℕ → Bool
 each f [] = true
 each f (y ∷ ys) = f y && each f ys
 
--- 6, of a list of partitions: it has none or too many, or one of them names a taxon n or above.
+-- 6, of a list of partitions: it has none or too many, or one of them names a
+-- taxon n or above.
 abbrev pub partitionsChecks : ℕ → List ℕ → List Check
-partitionsChecks n ys = ((leb 1 (length ys) && leb (length ys) mostPartitions && each (λ y. ltb y (2 ^ n)) ys) else 6) ∷ []
+partitionsChecks n ys =
+    ((leb 1 (length ys) && leb (length ys) mostPartitions && each (λ y. ltb y (2 ^ n)) ys) else 6) ∷ []
 
--- 11: the lent output, which holds `room` numbers, is too short for an answer of `need`.
+-- 11: the lent output, which holds `room` numbers, is too short for an answer
+-- of `need`.
 abbrev pub roomChecks : ℕ → ℕ → List Check
 roomChecks need room = (leb need room else 11) ∷ []
 

@@ -1,4 +1,5 @@
--- Splits, induced trees and distance, as document 01 has them. A partition is a set y of taxa.
+-- Splits, induced trees and distance, as document 01 has them. A partition is
+-- a set y of taxa.
 use Prim.Native.Nat.{ℕ, zero, suc, _+_, _*_, _-_, _^_, _%_, _<_}
 use mathlib.Core.Bool.{Bool, _&&_}
 use mathlib.Core.List.{List, [], _∷_}
@@ -8,7 +9,8 @@ use Rattle.taxa.specs.Sets.{pick, tally, has, less, some, lowest, Sub}
 use Rattle.tree.specs.Tree.{lo, rows, part}
 use Rattle.tree.specs.Lists.{insert, lacks, firstLack}
 
--- Removing row e divides the taxa into two sides: those with its smaller end, and the others.
+-- Removing row e divides the taxa into two sides: those with its smaller end,
+-- and the others.
 unfoldable pub side : ℕ → List ℕ → ℕ → ℕ
 side n t e = part n t e (lo t e) % 2 ^ n
 
@@ -16,7 +18,8 @@ side n t e = part n t e (lo t e) % 2 ^ n
 unfoldable pub meets : ℕ → ℕ → Bool
 meets y s = some (bitAnd s y) && some (less y s)
 
--- Of the two sides of y that the set s makes, the one that is written: not s itself where s holds the lowest taxon of y.
+-- Of the two sides of y that the set s makes, the one that is written: not s
+-- itself where s holds the lowest taxon of y.
 unfoldable pub flips : ℕ → ℕ → ℕ → Bool
 flips n y s = has s (lowest n y)
 
@@ -24,7 +27,8 @@ flips n y s = has s (lowest n y)
 unfoldable pub split : ℕ → ℕ → ℕ → ℕ
 split n y s = pick (flips n y s) (less y s) (bitAnd s y)
 
--- The induced splits over y of rows 0 to k-1: kept when both sides are non-empty, ascending, each once.
+-- The induced splits over y of rows 0 to k-1: kept when both sides are
+-- non-empty, ascending, each once.
 unfoldable pub splitsTo : ℕ → List ℕ → ℕ → ℕ → List ℕ
 splitsTo n t y zero = []
 splitsTo n t y (suc k) =
@@ -43,7 +47,8 @@ members (suc zero) = 0
 members (suc (suc zero)) = 1
 members (suc (suc (suc m))) = 2 * suc (suc (suc m)) - 3
 
--- The distance of two trees over y: how many splits are in exactly one of the two sets.
+-- The distance of two trees over y: how many splits are in exactly one of the
+-- two sets.
 unfoldable pub dist : ℕ → List ℕ → List ℕ → ℕ → ℕ
 dist n t u y =
     let a = splits n t y in
@@ -59,12 +64,14 @@ unfoldable pub distances : ℕ → List ℕ → List ℕ → List ℕ → List �
 distances n t u [] = []
 distances n t u (y ∷ ys) = dist n t u y ∷ distances n t u ys
 
--- Of how many partitions on a list the induced splits are the same in both trees.
+-- Of how many partitions on a list the induced splits are the same in both
+-- trees.
 unfoldable pub unchanged : ℕ → List ℕ → List ℕ → List ℕ → ℕ
 unchanged n t u [] = 0
 unchanged n t u (y ∷ ys) = tally (eqb (dist n t u y) 0) + unchanged n t u ys
 
--- Each partition of the first list lies within the one of the second at its place, and that one within the n taxa.
+-- Each partition of the first list lies within the one of the second at its
+-- place, and that one within the n taxa.
 abbrev pub Gains : ℕ → List ℕ → List ℕ → Type 0
 Gains n [] [] = Unit {0}
 Gains n [] (z ∷ zs) = ⊥

@@ -1,1 +1,2 @@
-// The tree table, its splits and its refusals: definitions and laws, and no code.
+// The tree table, its splits and its refusals: definitions and laws, and no
+// code.

@@ -1,4 +1,5 @@
-// Cases of document 01 up to the moves, run: a line for each, the number that matters first.
+// Cases of document 01 up to the moves, run: a line for each, the number that
+// matters first.
 use prints::line;
 use prints::numbers;
 use prints::put;
@@ -23,7 +24,8 @@ fn check(n: usize, t: &[u8], words: &[u8]) {
     line(words);
 }
 
-// Two lines for a list of splits: how many, or the refusal; and the whole lent list after the call.
+// Two lines for a list of splits: how many, or the refusal; and the whole lent
+// list after the call.
 fn list(n: usize, t: &[u8], y: u64, out: &mut [u64], words: &[u8]) {
     let c = splits::induced_splits(n, t, y, out);
     match c {
@@ -58,7 +60,8 @@ fn compare(n: usize, t: &[u8], u: &[u8], y: u64, words: &[u8]) {
     line(words);
 }
 
-// Checks tree S in two forms, then tables whose count or length is wrong, for refusals 1 and 2.
+// Checks tree S in two forms, then tables whose count or length is wrong, for
+// refusals 1 and 2.
 fn counts_and_lengths() {
     check(6, &S, b"tree S");
     check(6, &S_AGAIN, b"tree S, rows and inner nodes renumbered");
@@ -71,7 +74,8 @@ fn counts_and_lengths() {
     check(6, b"", b"an empty table");
 }
 
-// Checks the smallest tree, then the ways in which its rows can be wrong, for refusals 3 to 5.
+// Checks the smallest tree, then the ways in which its rows can be wrong, for
+// refusals 3 to 5.
 fn rows_and_nodes() {
     check(4, &FOUR, b"the smallest tree");
     check(
@@ -106,7 +110,8 @@ fn largest() {
     check(64, &t, b"taxon 1 at two rows and taxon 0 at none");
 }
 
-// Lists the splits of tree S over partitions of each size, with room enough, to spare and too little.
+// Lists the splits of tree S over partitions of each size, with room enough,
+// to spare and too little.
 fn lists_of_s() {
     list(6, &S, 63, &mut [MARK; 9], b"S over all taxa");
     list(
@@ -133,7 +138,8 @@ fn lists_of_s() {
     list(2, &S, 64, &mut [MARK; 1], b"two taxa and bit 6");
 }
 
-// Compares tree S with itself and with another tree, then what a comparison refuses.
+// Compares tree S with itself and with another tree, then what a comparison
+// refuses.
 fn comparisons() {
     compare(6, &S, &S_AGAIN, 63, b"one tree, renumbered");
     compare(6, &S, &S_MOVED, 63, b"S and S with 2 and 3 exchanged");

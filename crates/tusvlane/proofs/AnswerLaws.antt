@@ -1,4 +1,6 @@
--- From the answer of each call to the C numbers: where it is known which answer the call gave, the numbers that stand for it are those of the promise. Assumes nothing.
+-- From the answer of each call to the C numbers: where it is known which
+-- answer the call gave, the numbers that stand for it are those of the
+-- promise. Assumes nothing.
 use mathlib.Core.Path.{_≡_, sym, ap, ap₂, _∙_}
 use mathlib.Core.List.{List}
 use Prim.Native.Nat.{ℕ}
@@ -29,7 +31,8 @@ use Rattle.job.specs.Runs.{first}
 use Rattle.tusvlane.specs.Answers.{codeOf, answerOf, comparisonOf, stepAnswerOf}
 use Rattle.tusvlane.specs.Promises.{Induces, Applies, Judges, Lists, Steps}
 
--- The answer r is q, and a stands for what q says; so a stands for what the call says.
+-- The answer r is q, and a stands for what q says; so a stands for what the
+-- call says.
 stands : {A B R : Type 0} (says : R → A) (of : A → B) {r q : R} {s : A} {a : B} → says r ≡ s → r ≡ q → a ≡ of (says q) → a ≡ of s
 stands says of e f g = g ∙ ap (λ x. of (says x)) (sym f) ∙ ap of e
 
@@ -74,7 +77,8 @@ start-is s z =
     let e₄ : s .moves ≡ 0 = z .3 in
     rw (e₁, e₂, e₃, e₄)
 
--- The answer with such a state for the next is that of the end, or of a refusal.
+-- The answer with such a state for the next is that of the end, or of a
+-- refusal.
 pub ended-is : (s : State) → AllZero s → record { refusal = 0; ended = 1; place = 0; wrote = 0; next = s } ≡ stepAnswerOf ended
 ended-is s z = ap (λ (x : State). record { refusal = 0; ended = 1; place = 0; wrote = 0; next = x }) (start-is s z)
 

@@ -1,4 +1,5 @@
--- The refusal number of each C answer is 0 exactly when the call gives its answer, and else from 1 to 13. Assumes nothing.
+-- The refusal number of each C answer is 0 exactly when the call gives its
+-- answer, and else from 1 to 13. Assumes nothing.
 use mathlib.Core.Path.{_≡_, refl, sym, ap, _∙_}
 use mathlib.Core.Logic.{_↔_}
 use mathlib.Core.Bool.{Bool, true, false, _&&_}
@@ -49,7 +50,8 @@ judged-ranged ((false else k) ∷ cs) a h =
     let w = and-left (leb 1 k && leb k 13) (allRanged cs) h in
     (leb-true 1 k (and-left (leb 1 k) (leb k 13) w), leb-true k 13 (and-right (leb 1 k) (leb k 13) w))
 
--- A number that is 0 for an answer, and a refusal's own for a refusal, stands for what the call says.
+-- A number that is 0 for an answer, and a refusal's own for a refusal, stands
+-- for what the call says.
 stands-for : {A : Type 0} (f : Said A → ℕ) → ((a : A) → f (gives a) ≡ 0) → ((k : ℕ) → f (refuses k) ≡ k) → (s : Said A) → Ranged s → (k : ℕ) → k ≡ f s → Numbered s k
 stands-for f z e (gives a) w k h = answered a refl (h ∙ z a)
 stands-for f z e (refuses j) w k h = let i : k ≡ j = h ∙ e j in refused (ap refuses (sym i)) (omega (arith, w .0)) (omega (arith, w .1))

@@ -1,4 +1,5 @@
--- Each C function has one answer, and leaves one state of what was lent to it. Assumes nothing.
+-- Each C function has one answer, and leaves one state of what was lent to it.
+-- Assumes nothing.
 use mathlib.Core.Path.{_≡_, sym, _∙_}
 use mathlib.Core.List.{List}
 use Prim.Native.Nat.{ℕ}

@@ -1,4 +1,5 @@
--- The refusal number of a C answer: 0 where the call gives its answer, from 1 to 13 where it is refused.
+-- The refusal number of a C answer: 0 where the call gives its answer, from 1
+-- to 13 where it is refused.
 use Prim.Native.Nat.{ℕ, _≤_}
 use mathlib.Core.Path.{_≡_}
 use Rattle.tree.specs.Refusals.{Said, gives, refuses}
@@ -9,7 +10,8 @@ abbrev pub Given : {A : Type 0} → Said A → Type 0
 Given (gives a) = Unit {0}
 Given (refuses k) = ⊥
 
--- The number k stands for what a call says: 0 for an answer, and its own number for a refusal.
+-- The number k stands for what a call says: 0 for an answer, and its own
+-- number for a refusal.
 pub data Numbered {A : Type 0} (s : Said A) (k : ℕ) : Type 0 where
   answered : (a : A) → s ≡ gives a → k ≡ 0 → Numbered s k
   refused : s ≡ refuses k → 1 ≤ k → k ≤ 13 → Numbered s k

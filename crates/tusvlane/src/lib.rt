@@ -1,4 +1,5 @@
-// The library's calls under their C names: include/tusvlane.h declares them. Each gives what the call beneath gives, with the refusal as its number.
+// The library's calls under their C names: include/tusvlane.h declares them.
+// Each gives what the call beneath gives, with the refusal as its number.
 ghost use mathlib.Core.Path.{_≡_};
 ghost use lib.ListN.{length};
 ghost use Rattle.tree.specs.Refusals.{refuses, treeSaid};
@@ -29,7 +30,8 @@ pub struct Answer {
     pub value: u64,
 }
 
-// A refusal or 0, the distance, and the smallest number that the second tree lacks.
+// A refusal or 0, the distance, and the smallest number that the second tree
+// lacks.
 #[repr(C)]
 pub struct Comparison {
     pub refusal: u64,
@@ -37,7 +39,8 @@ pub struct Comparison {
     pub missing: u64,
 }
 
-// A step's refusal or 0 and its place, whether the job is over, how many bytes of lines were written, and the next state.
+// A step's refusal or 0 and its place, whether the job is over, how many bytes
+// of lines were written, and the next state.
 #[repr(C)]
 pub struct StepAnswer {
     pub refusal: u64,
@@ -69,7 +72,8 @@ pub extern "C" fn tusvlane_check_tree(n: usize, table: &[u8]) -> u32
     }
 }
 
-// Writes the induced splits of a tree over a partition; how many. Refusals 1 to 6 and 11.
+// Writes the induced splits of a tree over a partition; how many. Refusals 1
+// to 6 and 11.
 #[no_mangle]
 pub extern "C" fn tusvlane_induced_splits(
     n: usize,
@@ -123,7 +127,8 @@ pub extern "C" fn tusvlane_apply_move(n: usize, table: &mut [u8], m: Move) -> u3
     }
 }
 
-// Writes the distance that a move makes over each partition; how many are 0. Refusals 1 to 11.
+// Writes the distance that a move makes over each partition; how many are 0.
+// Refusals 1 to 11.
 #[no_mangle]
 pub extern "C" fn tusvlane_judge_move(
     n: usize,
@@ -157,7 +162,8 @@ pub extern "C" fn tusvlane_judge_one(n: usize, table: &[u8], partition: u64, m: 
     }
 }
 
-// Makes a move and writes its lines, under the number stated, into out from the place on; the place after them. Refusals 1 to 11.
+// Makes a move and writes its lines, under the number stated, into out from
+// the place on; the place after them. Refusals 1 to 11.
 #[no_mangle]
 pub extern "C" fn tusvlane_list_move(
     n: usize,

@@ -1,4 +1,5 @@
--- Which row at a node leads to row b, and that sets of taxa alone tell it: row x leads to b where b's side parts the taxa beyond x. Assumes nothing.
+-- Which row at a node leads to row b, and that sets of taxa alone tell it: row
+-- x leads to b where b's side parts the taxa beyond x. Assumes nothing.
 use mathlib.Core.Path.{_≡_, refl, sym, ap, ap₂, _∙_}
 use mathlib.Core.Logic.{_⊎_, inl, inr}
 use mathlib.Core.Bool.{Bool, true, false, not, _&&_, _||_}
@@ -303,7 +304,8 @@ module _ (n : ℕ) (t : List ℕ) (b v x : ℕ) (a : At n t x v) (lb : b < rows 
       let l = beyond-low n t v x i h in
       side-has n t b i l ∙ one-side n t b x (far t x v) (far-at n t x v a) lb bx i (omega (arith, l, vt n t x v a .big)) (sym (beyond-taxa n t v x i l) ∙ h ∙ sym (ap not p)))
 
-  -- another row x leads to b where b lies beyond it, and there b's side parts the taxa beyond x
+  -- another row x leads to b where b lies beyond it, and there b's side parts
+  -- the taxa beyond x
   pub leads-beyond : leads n t b v x ≡ has (part n t x (far t x v)) (lo t b)
   unfolding leads
   leads-beyond = ap (λ (c : Bool). c || has (part n t x (far t x v)) (lo t b)) (ne-eqb x b (λ d. bx (sym d)))

@@ -1,4 +1,5 @@
--- What the stored sides say of one row: the taxa beyond it, whether it leads to row b, and which end of it b lies with. Assumes nothing.
+-- What the stored sides say of one row: the taxa beyond it, whether it leads
+-- to row b, and which end of it b lies with. Assumes nothing.
 use mathlib.Core.Path.{_≡_, refl, sym, ap, ap₂, _∙_}
 use mathlib.Core.Bool.{Bool, true, false, not, _&&_, _||_}
 use mathlib.Core.List.{List}

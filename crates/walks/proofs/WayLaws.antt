@@ -1,4 +1,5 @@
--- A way step by step: what is written, and what is left of it as `walk` says. Assumes nothing.
+-- A way step by step: what is written, and what is left of it as `walk` says.
+-- Assumes nothing.
 use mathlib.Core.Path.{_≡_, refl, sym, ap, ap₂, _∙_, subst}
 use mathlib.Core.Logic.{_⊎_, inl, inr}
 use mathlib.Core.Bool.{true, false}

@@ -25,7 +25,8 @@ aside n t b v e =
     let y = getD (others t e v (rows n)) 1 0 in
     pick (leads n t b v x) y x
 
--- k is how many numbers gs has, at most m, and out′ is out with gs in place of its first numbers
+-- k is how many numbers gs has, at most m, and out′ is out with gs in place of
+-- its first numbers
 pub record Listed (m : ℕ) (gs out : List ℕ) (k : ℕ) (out′ : List ℕ) : Type 0 where
   pub count : k ≡ length gs
   pub few : k ≤ m

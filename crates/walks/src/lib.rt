@@ -1,4 +1,5 @@
-// The groups of taxa on the way from an end of a row to its target, from the sides of the rows alone.
+// The groups of taxa on the way from an end of a row to its target, from the
+// sides of the rows alone.
 ghost use Prim.Native.Nat.{_<_, _≤_};
 ghost use mathlib.Core.Path.{_≡_};
 ghost use mathlib.Core.Bool.{true};
@@ -77,7 +78,8 @@ pub fn is_target(n: usize, t: &[u8], s: &[u64], a: usize, v: usize, b: usize) ->
     leads(n, t, s, b, w, a)
 }
 
-// At the inner node v, come by row e: the row that leads on to b, and the taxa beyond the other.
+// At the inner node v, come by row e: the row that leads on to b, and the taxa
+// beyond the other.
 fn pace(n: usize, t: &[u8], near: &[u8], s: &[u64], b: usize, v: usize, e: usize) -> Step
     requires { ⌜ (At n (now t) e v) × (n ≤ v) × (b < rows n) × (Sides n (now t) (now s)) × (Near n (now t) (now near)) ⌝ }
     ensures { λ r. ⌜ (r .on ≡ onward n (now (t .entry)) b v e) × (r .off ≡ groups_spec.beyond n (now (t .entry)) v (aside n (now (t .entry)) b v e)) ⌝ }
@@ -93,7 +95,8 @@ fn pace(n: usize, t: &[u8], near: &[u8], s: &[u64], b: usize, v: usize, e: usize
     Step { on: g, off: h }
 }
 
-// The groups on the side of row a's end v, whose target is b, at the start of the lent list: how many.
+// The groups on the side of row a's end v, whose target is b, at the start of
+// the lent list: how many.
 pub fn way(
     n: usize,
     t: &[u8],
@@ -128,7 +131,8 @@ pub fn way(
     }
 }
 
-// The groups of an end v of row a that stays, at the start of the lent list: how many.
+// The groups of an end v of row a that stays, at the start of the lent list:
+// how many.
 pub fn stays(
     n: usize,
     t: &[u8],

@@ -5,10 +5,12 @@ use job::Stepped;
 use libc::STDOUT_FILENO;
 use table::Refusal;
 
-// More steps than a job takes, since each but the last reads a byte at least and the longest job has 65535.
+// More steps than a job takes, since each but the last reads a byte at least
+// and the longest job has 65535.
 pub const STEPS: u64 = 65537;
 
-// Writes the first bytes of what was lent for lines; whether all of them were written.
+// Writes the first bytes of what was lent for lines; whether all of them were
+// written.
 pub fn put(lines: &[u8], wrote: usize) -> bool
     requires { ⌜ wrote ≤ length (now lines) ⌝ }
 {
@@ -29,7 +31,9 @@ pub fn refused(why: Refusal, place: usize) -> bool {
     put(&line, wrote)
 }
 
-// Writes the listing of a job, a step over one field at a time, and stops at the first write that fails; whether all was written, so that a listing cut short does not pass for a whole one.
+// Writes the listing of a job, a step over one field at a time, and stops at
+// the first write that fails; whether all was written, so that a listing cut
+// short does not pass for a whole one.
 pub fn list(input: &[u8]) -> bool {
     let mut tree = [0u8; 250];
     let mut parts = [0u64; 64];

@@ -1,4 +1,6 @@
--- `judge::partitions_right` meets its contract. The loop's invariant: the list is right where the union of its first i and each of the rest are. Assumes nothing.
+-- `judge::partitions_right` meets its contract. The loop's invariant: the list
+-- is right where the union of its first i and each of the rest are. Assumes
+-- nothing.
 use mathlib.Core.Path.{_≡_, sym, _∙_}
 use mathlib.Core.Bool.{_&&_}
 use Prim.Native.Nat.{_-_, _^_, _≤_}

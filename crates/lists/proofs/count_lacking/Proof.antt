@@ -1,4 +1,6 @@
--- `lists::count_lacking` meets its contract. The loop's invariant: what a lacks, with what both have, is the numbers passed of a and what the rest of a lacks of the rest of b. Assumes nothing.
+-- `lists::count_lacking` meets its contract. The loop's invariant: what a
+-- lacks, with what both have, is the numbers passed of a and what the rest of
+-- a lacks of the rest of b. Assumes nothing.
 use mathlib.Core.Path.{_≡_}
 use mathlib.Core.Logic.{⊎-elim}
 use Prim.Native.Nat.{_≤_, _<_, _-_, _+_}

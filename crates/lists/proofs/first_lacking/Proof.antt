@@ -1,4 +1,5 @@
--- `lists::first_lacking` meets its contract. The walks' invariants: what was passed of a is on b, and what was passed of b is not x. Assumes nothing.
+-- `lists::first_lacking` meets its contract. The walks' invariants: what was
+-- passed of a is on b, and what was passed of b is not x. Assumes nothing.
 use mathlib.Core.Path.{_≡_, refl, sym, _∙_}
 use Prim.Native.Nat.{_≤_, _-_}
 use lib.ListN.{getD, length, drop}

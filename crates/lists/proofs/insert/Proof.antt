@@ -1,4 +1,5 @@
--- `lists::insert` meets its contract: x stands at its place already, or a place is opened for it. Assumes nothing.
+-- `lists::insert` meets its contract: x stands at its place already, or a
+-- place is opened for it. Assumes nothing.
 use mathlib.Core.Path.{ap, _∙_}
 use mathlib.Core.List.{List}
 use mathlib.Core.Logic.{⊎-elim}

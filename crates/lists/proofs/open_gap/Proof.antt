@@ -1,4 +1,5 @@
--- `lists::open_gap` meets its contract. The loop's invariant: the numbers from k up to len stand one place up. Assumes nothing.
+-- `lists::open_gap` meets its contract. The loop's invariant: the numbers from
+-- k up to len stand one place up. Assumes nothing.
 use mathlib.Core.Path.{_≡_, refl}
 use Prim.Native.Nat.{_≤_}
 use native.Mathlib.Omega.{arith}

@@ -1,4 +1,5 @@
--- `lists::place` meets its contract. The loop's invariant: the numbers passed, and those below x from i on, make up the place. Assumes nothing.
+-- `lists::place` meets its contract. The loop's invariant: the numbers passed,
+-- and those below x from i on, make up the place. Assumes nothing.
 use mathlib.Core.Path.{_≡_}
 use Prim.Native.Nat.{_≤_, _-_, _+_}
 use native.Mathlib.Omega.{arith}

@@ -1,4 +1,5 @@
--- `rules::all_met` meets its contract. The loop's invariant: the first i groups are met. Assumes nothing.
+-- `rules::all_met` meets its contract. The loop's invariant: the first i
+-- groups are met. Assumes nothing.
 use mathlib.Core.Path.{_≡_}
 use Prim.Native.Nat.{_+_, _-_, _≤_}
 use native.Mathlib.Omega.{arith}

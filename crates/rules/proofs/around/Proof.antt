@@ -1,4 +1,5 @@
--- `rules::around` meets its contract: four are met exactly where both pairs are. Assumes nothing.
+-- `rules::around` meets its contract: four are met exactly where both pairs
+-- are. Assumes nothing.
 use mathlib.Core.Path.{sym, _∙_}
 use lib.Dec.{eqb}
 use lib.ListN.{length}

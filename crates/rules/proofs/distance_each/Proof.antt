@@ -1,4 +1,5 @@
--- `rules::distance_each` meets its contract. The loop's invariant: the contract of the first i of ys. Assumes nothing.
+-- `rules::distance_each` meets its contract. The loop's invariant: the
+-- contract of the first i of ys. Assumes nothing.
 use Prim.Native.Nat.{_≤_, _-_}
 use native.Mathlib.Omega.{arith}
 use lib.Dec.{eqb}

@@ -1,4 +1,5 @@
--- `rules::meets` meets its contract, by what it is for a set to have a member. Assumes nothing.
+-- `rules::meets` meets its contract, by what it is for a set to have a member.
+-- Assumes nothing.
 use Rattle.taxa.specs.Sets.{some}
 use borrow.Author.Needs.{needs}
 use Rattle.rules.proofs.meets.Statement.{statement}

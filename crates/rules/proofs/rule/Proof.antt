@@ -1,4 +1,5 @@
--- `rules::rule` meets its contract, by whether a side has no group that is met. Assumes nothing.
+-- `rules::rule` meets its contract, by whether a side has no group that is
+-- met. Assumes nothing.
 use mathlib.Core.Path.{sym, _∙_}
 use native.Mathlib.Omega.{arith}
 use lib.Dec.{eqb}
