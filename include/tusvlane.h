@@ -1,11 +1,11 @@
 /* Tusvlane: which gene partitions must be scored again after a tree
- * rearrangement.
+ * rearrangement. For C99 or later, and for C++.
  *
  * What every function keeps to
  *
- * - Each takes any numbers, and any pointer with a length that C allows: so
- *   many bytes or numbers can be read there, and written where the pointer is
- *   not to const. Where the length is 0 the pointer is not used.
+ * - Each takes any numbers. A pointer comes with a length: so many bytes or
+ *   numbers can be read there, and written where it is not a pointer to const.
+ *   With length 0 any pointer will do, also a null pointer.
  * - What is lent to be written overlaps nothing else that is lent to the same
  *   call. `restrict` says so below.
  * - Each ends, and gives its answer or a refusal. `refusal` is 0 when the call
@@ -14,7 +14,8 @@
  * - A refused call leaves every lent byte as it was. An accepted one writes
  *   what its description says and nothing else.
  * - Checks run in the order of the refusal numbers 1 to 11. Of two trees the
- *   first is checked wholly, then the second.
+ *   first is checked wholly, then the second. tusvlane_step tells its own
+ *   order.
  * - No function keeps memory, calls for any, or has a state of its own, so
  *   that any number of threads may call.
  */
@@ -185,15 +186,23 @@ tusvlane_state tusvlane_start(void);
  * stepped from its start, with 250 bytes for the table, 64 partitions and 8192
  * bytes of output, never gives 11.
  *
- * Any state is taken, also one that no job has. With its offset as the place
- * it is refused with
- * - 1 when its number of taxa is above 64, or below 4 and its offset not 0;
- * - 11 when the table or the list is too short for its taxa or partitions;
- * - 12 when its offset is from 1 to 3, or its number of moves above 65,535.
- * Otherwise the field at its offset is judged: at 0 it is n, at 4 the table;
- * elsewhere a partition where the state has none, a move where it has moves,
- * else either, but no 65th partition. After n and after the table the next
- * state has no partitions and no moves.
+ * The closing line of a listing, `end M` or `refused N at P`, is the caller's
+ * to write. M is the number of moves of the state that the last step took.
+ *
+ * Refusals 1 to 13. Any state is taken, also one that no job has. In order:
+ * - 13 at 0 when the job is longer than 65,535 bytes;
+ * - with the state's offset as the place: 1 when its number of taxa is above
+ *   64, or below 4 and its offset not 0; 11 when the table or the list is too
+ *   short for its taxa or its partitions; 12 when its offset is from 1 to 3,
+ *   or its number of moves above 65,535;
+ * - when the offset is the job's length or more: the end of the job, or 12 at
+ *   the job's length where the state has no partition;
+ * - the field at the offset. At 0 it is n, at 4 the table. Elsewhere it is a
+ *   partition where the state has none; otherwise a move, or a partition where
+ *   the state has no moves and fewer than 64 partitions. Any other tag is 12.
+ *   A move is judged as tusvlane_list_move judges it, on what is held;
+ * - 11 when a partition or the lines do not fit.
+ * After n and after the table the next state has no partitions and no moves.
  */
 tusvlane_stepped tusvlane_step(const uint8_t *job, size_t job_bytes,
                                tusvlane_state state,
