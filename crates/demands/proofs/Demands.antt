@@ -52,6 +52,13 @@ use Rattle.job.specs.declared.Stepped.{Stepped}
 use Rattle.job.proofs.PlainListing.{listing-plain}
 use Rattle.job.proofs.StateLaws.{gives-one}
 use Rattle.job.proofs.RunLaws.{run-is-listing, listing-closes}
+use Rattle.tusvlane.specs.Promises as c
+use Rattle.tusvlane.specs.Numbers.{Given, Numbered}
+use Rattle.tusvlane.specs.declared.Answer.{Answer}
+use Rattle.tusvlane.specs.declared.StepAnswer.{StepAnswer}
+use Rattle.tusvlane.proofs.NumberLaws.{zero-iff}
+use Rattle.tusvlane.proofs.OneAnswer.{c-induces-one, c-applies-one}
+use Rattle.tusvlane.proofs.OneAnswer.{c-judges-one, c-lists-one, c-steps-one}
 
 -- ==== Demand 1: an answer or one refusal for every input, and a refusal
 -- leaves what was lent.
@@ -92,6 +99,39 @@ pub one-step :
     → Gives o a table t parts p out x → Gives o b table u parts q out y
     → (a ≡ b) × (t ≡ u) × (p ≡ q) × (x ≡ y)
 one-step = gives-one
+
+-- Under its C name a call has one answer too, to the last number, and leaves
+-- one state of what was lent to it.
+pub one-c-induced : (n : ℕ) (t : List ℕ) (y : ℕ) (out : List ℕ) (a b : Answer)
+    (p q : List ℕ) → c.Induces n t y out a p → c.Induces n t y out b q
+    → (a ≡ b) × (p ≡ q)
+one-c-induced = c-induces-one
+
+pub one-c-applied : (n : ℕ) (t : List ℕ) (m : Move) (a b : ℕ) (u v : List ℕ)
+    → c.Applies n t m a u → c.Applies n t m b v → (a ≡ b) × (u ≡ v)
+one-c-applied = c-applies-one
+
+pub one-c-judged : (n : ℕ) (t ys : List ℕ) (m : Move) (out : List ℕ)
+    (a b : Answer) (p q : List ℕ) → c.Judges n t ys m out a p
+    → c.Judges n t ys m out b q → (a ≡ b) × (p ≡ q)
+one-c-judged = c-judges-one
+
+pub one-c-listed : (n : ℕ) (t ys : List ℕ) (m : Move) (k : ℕ) (out : List ℕ)
+    (place : ℕ) (a b : Answer) (u v p q : List ℕ)
+    → c.Lists n t ys m k out place a u p → c.Lists n t ys m k out place b v q
+    → (a ≡ b) × (u ≡ v) × (p ≡ q)
+one-c-listed = c-lists-one
+
+pub one-c-step : (o : Outcome) (a b : StepAnswer)
+    (table t u parts p q out x y : List ℕ)
+    → c.Steps o a table t parts p out x → c.Steps o b table u parts q out y
+    → (a ≡ b) × (t ≡ u) × (p ≡ q) × (x ≡ y)
+one-c-step = c-steps-one
+
+-- There the refusal number is 0 exactly when the call gives its answer.
+pub zero-is-answer : {A : Type 0} (s : Said A) (k : ℕ) → Numbered s k
+    → (k ≡ 0) ↔ Given s
+zero-is-answer = zero-iff
 
 -- A refused list of splits leaves the lent list.
 pub kept-induced : (n : ℕ) (t : List ℕ) (y : ℕ) (out : List ℕ) (r : Refusal)
