@@ -84,7 +84,8 @@ fn members(m: usize) -> usize
     2 * m - 3
 }
 
-// Lists the induced splits of a tree over y; how many there are.
+// Lists the induced splits over y of the tree t, whose sides are s; how many
+// there are. The sides are all that is read; t is what the promise speaks of.
 fn tree_splits(n: usize, t: &[u8], s: &[u64; sides::ROWS], y: u64, out: &mut [u64]) -> usize
     requires { ⌜ (Accepted n (now t)) × (Sides n (now t) (now s)) × (y < 2 ^ n) × (length (splits_spec.splits n (now t) y) ≤ length (now out)) ⌝ }
     ensures { λ r. ⌜ Listed (splits_spec.splits n (now (t .entry)) y) (now (out .entry)) r (now (out .exit)) ⌝ }
