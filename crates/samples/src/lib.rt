@@ -1,5 +1,7 @@
 // The tables of document 01 and broken ones beside them, each once for the
 // programs of cases.
+ghost use mathlib.Core.Path.{_≡_};
+ghost use Rattle.samples.specs.Along.{alongRows};
 
 // Tree S of document 01: taxa 0 to 5 along a line.
 pub const S: [u8; 18] = [0, 6, 1, 6, 6, 7, 2, 7, 7, 8, 3, 8, 8, 9, 4, 9, 5, 9];
@@ -26,7 +28,9 @@ pub const APART: [u8; 10] = [0, 1, 4, 5, 4, 5, 2, 4, 3, 5];
 pub const MARK: u64 = 999;
 
 // The largest tree: 64 taxa along a line, as tree S has six.
-pub fn along() -> [u8; 250] {
+pub fn along() -> [u8; 250]
+    ensures { λ t. ⌜ t ≡ alongRows ⌝ }
+{
     let mut t = [0u8; 250];
     t[1] = 64;
     let mut k: u8 = 0;

@@ -1,3 +1,6 @@
+use native.Mathlib.Omega.{arith}
+use Rattle.samples.specs.Along.{rowsTo}
+use Rattle.samples.proofs.AlongLaws.{rows-none, rows-more, rows-all}
 -- `samples::along` meets its contract. Assumes nothing.
 use Prim.Native.Nat.{_≤_, _-_}
 use mathlib.Core.Path.{_≡_}
@@ -8,7 +11,7 @@ use Rattle.samples.proofs.along.Tie as tie
 
 abbrev Inv-loop : tie.InvT-loop
 Inv-loop t₀ k₀ t k =
-    (k ≤ 61) × (length t ≡ 250)
+    (k ≤ 61) × (length t ≡ 250) × (t ≡ rowsTo k)
 
 abbrev μ-loop : tie.MeasureT-loop
 μ-loop t₀ k₀ t k =
@@ -18,7 +21,8 @@ array-write-t : tie.Need-array-write-t Inv-loop μ-loop
 array-write-t c = search needs
 
 loop-holds : tie.Need-loop-holds Inv-loop μ-loop
-loop-holds c = search needs
+loop-holds c =
+    (search needs, search needs, rows-none)
 
 cast-i : tie.Need-cast-i Inv-loop μ-loop
 cast-i c = search needs
@@ -69,7 +73,8 @@ loop-less : tie.Need-loop-less Inv-loop μ-loop
 loop-less c = search needs
 
 loop-again : tie.Need-loop-again Inv-loop μ-loop
-loop-again c = search needs
+loop-again c =
+    (search needs, search needs, rows-more (c .before .loop .k) (c .before .loop .t) (c .before .loop .inv .2))
 
 array-write-t-6 : tie.Need-array-write-t-6 Inv-loop μ-loop
 array-write-t-6 c = search needs
@@ -84,7 +89,8 @@ array-write-t-9 : tie.Need-array-write-t-9 Inv-loop μ-loop
 array-write-t-9 c = search needs
 
 returns : tie.Need-returns Inv-loop μ-loop
-returns c = search needs
+returns c =
+    rows-all (c .before .loop .k) (c .before .loop .t) (omega (arith, c .before .loop .inv .0, c .loop-test .left)) (c .before .loop .inv .2)
 
 pub along-spec : {M : Type 1} → statement M
 along-spec =
