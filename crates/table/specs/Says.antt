@@ -1,4 +1,4 @@
--- Document 01's number for each refusal, and what each answer says.
+-- The documents' number for each refusal, and what each answer says.
 use Prim.Native.Nat.{ℕ}
 use Rattle.tree.specs.Refusals.{Said, gives, refuses}
 use Rattle.table.specs.declared.Refusal.{Refusal}
@@ -7,7 +7,7 @@ use Rattle.table.specs.declared.Refusal.the-variants.{Ends, Degree}
 use Rattle.table.specs.declared.Refusal.the-variants.{Unreached}
 use Rattle.table.specs.declared.Refusal.the-variants.{Partition, Kind}
 use Rattle.table.specs.declared.Refusal.the-variants.{Row, Misfit, Idle}
-use Rattle.table.specs.declared.Refusal.the-variants.{Room, Field, Long}
+use Rattle.table.specs.declared.Refusal.the-variants.{Room, Field, Long, Text}
 use Rattle.table.specs.declared.Checked.{Checked}
 use Rattle.table.specs.declared.Checked.the-variants.{Tree, Refused}
 
@@ -26,6 +26,7 @@ numberOf Idle = 10
 numberOf Room = 11
 numberOf Field = 12
 numberOf Long = 13
+numberOf Text = 14
 
 -- What the answer of a check says.
 abbrev pub checkSays : Checked → Said (Unit {0})

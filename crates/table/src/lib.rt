@@ -14,7 +14,7 @@ ghost use Rattle.table.specs.Rowed.{Ordered, Counted, hasFrom};
 // The most nodes that a tree has.
 const NODES: usize = 126;
 
-// What a call is refused for, in the order of document 01's numbers, from 1.
+// What a call is refused for, in the order of the documents' numbers, from 1.
 pub enum Refusal {
     Count,
     Length,
@@ -29,9 +29,10 @@ pub enum Refusal {
     Room,
     Field,
     Long,
+    Text,
 }
 
-// Document 01's number of a refusal.
+// The documents' number of a refusal.
 pub fn number(r: Refusal) -> u8
     ensures { λ k. ⌜ k ≡ numberOf r ⌝ }
 {
@@ -49,6 +50,7 @@ pub fn number(r: Refusal) -> u8
         Refusal::Room => 11,
         Refusal::Field => 12,
         Refusal::Long => 13,
+        Refusal::Text => 14,
     }
 }
 

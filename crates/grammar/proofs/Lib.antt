@@ -1,0 +1,5 @@
+pub mod Labels
+pub mod Low
+pub mod Rooted
+pub mod Writes
+pub mod Valid

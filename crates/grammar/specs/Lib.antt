@@ -1,0 +1,2 @@
+pub mod Newick
+pub mod Numbers

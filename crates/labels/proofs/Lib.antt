@@ -1,0 +1,4 @@
+pub mod HeadLaws
+pub mod LabelLaws
+pub mod OneLabel
+pub mod TextLaws

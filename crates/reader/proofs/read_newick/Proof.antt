@@ -1,0 +1,58 @@
+-- `reader::read_newick` meets its contract. Assumes nothing.
+use mathlib.Core.Path.{sym, ap, _∙_}
+use native.Mathlib.Omega.{arith}
+use lib.ListN.{length}
+use Rattle.reader.proofs.PlantLaws.{wrong-count, zeros-blank, blank-long}
+use borrow.Author.Needs.{needs}
+use Rattle.reader.proofs.read_newick.Statement.{statement}
+use Rattle.reader.proofs.read_newick.Tie as tie
+
+returns : tie.Need-returns
+returns c =
+    wrong-count (c .before .before .before .args .n) (c .before .before .before .args .text .now) (c .before .before .before .args .out .now) (λ h. omega (arith, h .0, c .if1 .taken))
+
+returns-2 : tie.Need-returns-2
+returns-2 c =
+    wrong-count (c .before .before .before .before .args .n) (c .before .before .before .before .args .text .now) (c .before .before .before .before .args .out .now) (λ h. omega (arith, h .1, c .if2 .taken))
+
+mul-table : tie.Need-mul-table
+mul-table c = search needs
+
+sub-table : tie.Need-sub-table
+sub-table c = search needs
+
+mul-table-2 : tie.Need-mul-table-2
+mul-table-2 c = search needs
+
+array-borrow-prefix-table : tie.Need-array-borrow-prefix-table
+array-borrow-prefix-table c = search needs
+
+slice-aggregate-plant : tie.Need-slice-aggregate-plant
+slice-aggregate-plant c =
+    sym (ap length (zeros-blank (c .before .before .before .before .before .args .n) (c .before .if2 .left)) ∙ blank-long (c .before .before .before .before .before .args .n))
+
+plant-requires : tie.Need-plant-requires
+plant-requires c κs =
+    (c .before .before .before .if1 .left, c .before .before .if2 .left, zeros-blank (c .before .before .before .before .before .before .args .n) (c .before .before .if2 .left))
+
+same-length : tie.Need-same-length
+same-length c = search needs
+
+returns-3 : tie.Need-returns-3
+returns-3 c =
+    c .before .before .before .plant .ensures
+
+pub read-newick-spec : {M : Type 1} → statement M
+read-newick-spec =
+    tie.close
+    (tie.spec
+    returns
+    returns-2
+    mul-table
+    sub-table
+    mul-table-2
+    array-borrow-prefix-table
+    slice-aggregate-plant
+    plant-requires
+    same-length
+    returns-3)
