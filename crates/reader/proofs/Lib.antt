@@ -5,3 +5,4 @@ pub mod OuterLaws
 pub mod StageLaws
 pub mod WholeLaws
 pub mod PlantLaws
+pub mod OneReading
