@@ -161,7 +161,7 @@ under-joins (put v q w) t p m pos h z o =
     ∙ omega (arith, under-joins w t p m pos h z (λ x. omega (arith, o x)))
 
 -- ---- the whole table, written from the blank one
-blank-length : (n : ℕ) → length (blank n) ≡ 2 * rows n
+pub blank-length : (n : ℕ) → length (blank n) ≡ 2 * rows n
 blank-length n = length-replicate (2 * rows n) 0
 
 -- a written table has the length of a blank one

@@ -3,7 +3,7 @@
 use mathlib.Core.Path.{_≡_, refl, sym, ap, ap₂, _∙_, subst}
 use mathlib.Core.Logic.{_↔_}
 use mathlib.Core.Bool.{Bool, true, false}
-use mathlib.Core.List.{List, [], _∷_, _++_, append-assoc}
+use mathlib.Core.List.{List, _∷_, _++_, append-assoc}
 use Prim.Native.Nat.{ℕ, suc, _+_, _*_, _≤_, _<_}
 use native.Mathlib.Omega.{arith}
 use lib.Dec.{ltb}
@@ -15,14 +15,14 @@ use Rattle.tree.specs.Refusals.{Accepted}
 use Rattle.table.specs.Says.{numberOf}
 use Rattle.table.proofs.Numbers.{number-one}
 use Rattle.labels.specs.Labels.{digit}
-use Rattle.grammar.specs.Newick.{Member, Outermost, two, three, text, whole, times, timesIn, EachOnce, Stands, IsTree, GoesOn, NoTree}
+use Rattle.grammar.specs.Newick.{Member, Outermost, two, three, text, whole, times, timesIn, EachOnce, IsTree, GoesOn, NoTree}
 use Rattle.grammar.specs.Numbers.{table}
 use Rattle.grammar.proofs.Labels.{Below}
 use Rattle.grammar.proofs.Low.{low-some}
 use Rattle.grammar.proofs.Valid.{table-valid}
 use Rattle.reader.specs.declared.Reading.{Reading}
 use Rattle.reader.specs.declared.Reading.the-variants as reading
-use Rattle.reader.specs.Promises.{Heard, gives, refuses, refusesAt, Right, Reads, of-count, of-text, of-room, of-tree, told, planted, readingSays, Plants}
+use Rattle.reader.specs.Promises.{Heard, gives, refusesAt, Right, Reads, of-count, of-text, of-room, of-tree, told, planted, readingSays, Plants}
 use Rattle.reader.proofs.Members.{head-is, tail-is, over-stop, stop-at, settled}
 use Rattle.reader.proofs.Places.{as-tree}
 
@@ -65,9 +65,10 @@ module _ (n : ℕ) (few : n ≤ 64) where
 
 -- what goes on to a tree does so from every place before
 shorter : (n : ℕ) (s : List ℕ) (i j : ℕ) → i ≤ j → GoesOn n (take j s) → GoesOn n (take i s)
-shorter n s i j h (w, t) =
-    (drop i (take j s) ++ w,
-    as-tree n (ap (λ (l : List ℕ). l ++ w) (sym (take-append-drop i (take j s)) ∙ ap (λ (l : List ℕ). l ++ drop i (take j s)) (take-take i j s h)) ∙ append-assoc (take i s) (drop i (take j s)) w) t)
+shorter n s i j h (w, t) = (
+  drop i (take j s) ++ w,
+  as-tree n (ap (λ (l : List ℕ). l ++ w) (sym (take-append-drop i (take j s)) ∙ ap (λ (l : List ℕ). l ++ drop i (take j s)) (take-take i j s h)) ∙ append-assoc (take i s) (drop i (take j s)) w) t,
+)
 
 not-before : (n : ℕ) (s : List ℕ) (p q : ℕ) → NoTree n s p → NoTree n s q → p < q → ⊥
 not-before n s p q a b h = a .there (omega (arith, h, b .inside)) (shorter n s (suc p) q h (b .before))

@@ -3,7 +3,7 @@ use mathlib.Core.Path.{_≡_, refl, ap, ap₂, _∙_, subst}
 use mathlib.Core.List.{List, _∷_, _++_}
 use Prim.Native.Nat.{ℕ, zero, suc, _*_, _≤_, _<_}
 use native.Mathlib.Omega.{arith}
-use lib.ListN.{length, take, drop, replicate, length-replicate}
+use lib.ListN.{length, take, drop, replicate}
 use lib.Seq.{take-all}
 use Rattle.taxa.specs.Most.{most}
 use Rattle.tree.specs.Tree.{rows}
@@ -25,9 +25,6 @@ take-zeros (suc k) (suc m) h = ap (λ (l : List ℕ). 0 ∷ l) (take-zeros k m (
 
 pub zeros-blank : (n : ℕ) → n ≤ most → take {A = ℕ} (2 * rows n) (replicate 250 0) ≡ blank n
 zeros-blank n few = take-zeros (2 * rows n) 250 (omega (arith, few))
-
-pub blank-long : (n : ℕ) → length (blank n) ≡ 2 * rows n
-blank-long n = length-replicate (2 * rows n) 0
 
 module _ (n : ℕ) (s out : List ℕ) where
   pub wrong-count : (Right n → ⊥) → Plants n s out (reading.Refused Count) out

@@ -1,15 +1,19 @@
 -- What each step of the reader comes to, from what it asked. Assumes nothing.
 use mathlib.Core.Path.{_≡_, refl, sym, ap, ap₂, _∙_, subst}
+use mathlib.Core.Logic.{inl}
 use mathlib.Core.Bool.{Bool, true, false, true≢false, _&&_}
-use mathlib.Core.List.{List}
+use mathlib.Core.List.{List, _∷_, _++_}
 use Prim.Native.Nat.{ℕ, suc, _+_, _*_, _≤_, _<_}
 use native.Mathlib.Numerals.{add-one}
 use native.Mathlib.Omega.{arith}
-use lib.ListN.{length, getD}
-use borrow.Author.Tests.{lt-ltb, eq-eqb, ne-eqb}
+use lib.Dec.{ltb}
+use lib.ListN.{length, take, getD, length-append}
+use lib.Seq.{take-all}
+use borrow.Author.Tests.{lt-ltb, ltb-true, ltb-false, eq-eqb, ne-eqb}
 use Rattle.taxa.specs.Most.{most}
 use Rattle.taxa.specs.Sets.{has, less, full, size}
 use Rattle.tree.specs.Tree.{rows}
+use Rattle.text.specs.Lines.{decimal}
 use Rattle.labels.specs.Labels.{Found, Missed, LabelIs}
 use Rattle.labels.specs.declared.Label.{Label}
 use Rattle.labels.specs.declared.Label.the-variants as label
@@ -21,10 +25,18 @@ use Rattle.reader.specs.declared.Cursor.{Cursor}
 use Rattle.reader.specs.declared.Got.{Got}
 use Rattle.reader.specs.declared.Got.the-variants as got
 use Rattle.reader.specs.Slots.{mark, Within, allowed, Slot, here, Past}
-use Rattle.reader.specs.Stages.{TakenIs, Ready, Read, GotIs}
-use Rattle.reader.proofs.Members.{allowed-low, below-n, mark-size, size-wide}
-use Rattle.reader.proofs.Places.{here-is}
+use Rattle.reader.specs.Stages.{ahead, TakenIs, Ready, Read, GotIs, Closes, ClosedIs}
+use Rattle.reader.proofs.Members.{allowed-low, label-first, below-n, mark-size, size-wide}
+use Rattle.reader.proofs.Places.{here-in, here-is}
 use Rattle.reader.proofs.SlotLaws.{no-more, too-deep, bad-label, past-taxon, left-slot, no-comma, right-slot, no-close, past-group}
+
+-- ---- the end of a group: its two rows
+module _ (s t : List ℕ) (c : Cursor) (x y : ℕ) (C : Closes s t c x y) where
+  pub row-first : (2 * x + 1 < length t) × (x < 256) × (c .next < 256)
+  row-first = (C .first, C .small .0, C .small .2)
+
+  pub row-second : (u : List ℕ) → u ≡ join x (c .next) t → (2 * y + 1 < length u) × (y < 256) × (c .next < 256)
+  row-second u e = (omega (arith, C .second, ap length e ∙ length-join t x (c .next)), C .small .1, C .small .2)
 
 -- ---- the taxa that may stand alone
 module _ (n u : ℕ) (few : n ≤ most) (w : Within n u) where
@@ -52,6 +64,23 @@ module _ (s : List ℕ) (at f : ℕ) (n u : ℕ) (o : Bool) (is : f ≡ allowed 
   pub label-low : n ≤ most → (d p : ℕ) → r ≡ label.Taxon d p → d < most
   label-low few d p e = omega (arith, few, allowed-low n u 0 o d (label-found d p e .among))
 
+-- no label stands at the end of the text
+pub label-none : (s : List ℕ) (at n u : ℕ) (o : Bool) → n ≤ most → length s ≤ at → at ≤ length s → Missed s at (allowed n u o) at
+label-none s at n u o few h k = record {
+  after = omega arith;
+  inside = k;
+  before = inl refl;
+  there = λ l x d w m e q. absurd (omega (arith, h, l));
+  none = λ d w m e q. absurd (some d w (omega (arith, few, allowed-low n u 0 o d m)) q);
+}
+  where
+    some : (d : ℕ) (w : List ℕ) → d < 100 → s ≡ take at s ++ (decimal d ++ w) → ⊥
+    some d w l q =
+        let f = label-first d w l in
+        let e : length s ≡ length (take at s) + suc (length (f .1)) =
+        ap length (q ∙ ap (λ (z : List ℕ). take at s ++ z) (f .2)) ∙ length-append (take at s) (f .0 ∷ f .1) in
+        omega (arith, e, ap length (take-all at s h))
+
 -- ---- one answer for another that is the same
 module _ (n : ℕ) (s : List ℕ) (r : Got) where
   pub bad-again : (c d : Cursor) (i j : ℕ) (o q : Bool) (t t₁ u u₁ : List ℕ) (p : ℕ) → r ≡ got.Bad p → GotIs n s c i o t t₁ r → GotIs n s d j q u u₁ r
@@ -60,22 +89,30 @@ module _ (n : ℕ) (s : List ℕ) (r : Got) where
   pub bad-is : (c : Cursor) (i : ℕ) (o : Bool) (t t₁ : List ℕ) (p : ℕ) → r ≡ got.Bad p → GotIs n s c i o t t₁ r → NoTree n s p
   bad-is c i o t t₁ p e g = subst (GotIs n s c i o t t₁) e g
 
-  pub read-is : (c d : Cursor) (i v : ℕ) (o : Bool) (t t₁ : List ℕ) → r ≡ got.Node d v → GotIs n s c i o t t₁ r → Read n s c i o t t₁ d v
-  read-is c d i v o t t₁ e g = subst (GotIs n s c i o t t₁) e g
+  pub read-is : (z c d : Cursor) (i v : ℕ) (o : Bool) (t t₁ : List ℕ) → z ≡ c → r ≡ got.Node d v → GotIs n s z i o t t₁ r → Read n s c i o t t₁ d v
+  read-is z c d i v o t t₁ q e g = subst (λ (y : Cursor). Read n s y i o t t₁ d v) q (subst (GotIs n s z i o t t₁) e g)
+
+-- a cursor for another that is the same
+pub ready-at : (n : ℕ) (s t : List ℕ) (z c : Cursor) (m : ℕ) (o : Bool) → z ≡ c → Ready n s t c m o → Ready n s t z m o
+ready-at n s t z c m o e r = subst (λ (y : Cursor). Ready n s t y m o) (sym e) r
 
 -- ---- a member
 module _ (n : ℕ) (s t : List ℕ) (c : Cursor) (m : ℕ) (o : Bool) (R : Ready n s t c m o) where
-  pub text-ended : length s ≤ c .at → NoTree n s (c .at)
-  text-ended h = no-more n (R .few) s (c .at) (c .used) m o (R .slot) h
-
   -- a label
-  pub got-taxon : here s (c .at) 40 ≡ false → c .at < length s → (r : Got) → TakenIs n s c o r → GotIs n s c m o t t r
+  pub got-taxon : here s (c .at) 40 ≡ false → (r : Got) → TakenIs n s c o r → GotIs n s c m o t t r
   unfolding withRows node groups mark
-  got-taxon e h (got.Bad p) M = bad-label n (R .few) s (c .at) (c .used) m o (R .slot) h not-open p M
+  got-taxon e (got.Bad p) M = go (ltb (c .at) (length s)) refl
     where
-      not-open : getD s (c .at) 0 ≡ 40 → ⊥
-      not-open q = true≢false (sym (ap₂ _&&_ (lt-ltb (c .at) (length s) h) (eq-eqb (getD s (c .at) 0) 40 q)) ∙ e)
-  got-taxon e h (got.Node d v) T = record {
+      not-open : c .at < length s → getD s (c .at) 0 ≡ 40 → ⊥
+      not-open h q = true≢false (sym (ap₂ _&&_ (lt-ltb (c .at) (length s) h) (eq-eqb (getD s (c .at) 0) 40 q)) ∙ e)
+
+      go : (b : Bool) → ltb (c .at) (length s) ≡ b → NoTree n s p
+      go true l = let h = ltb-true (c .at) (length s) l in bad-label n (R .few) s (c .at) (c .used) m o (R .slot) h (not-open h) p M
+      go false l =
+          let h = ltb-false (c .at) (length s) l in
+          let q : c .at ≡ p = omega (arith, h, M .after, M .inside) in
+          subst (NoTree n s) q (no-more n (R .few) s (c .at) (c .used) m o (R .slot) h)
+  got-taxon e (got.Node d v) T = record {
     member = taxon v;
     past = past-taxon n (R .few) s (c .at) (c .used) m o (R .slot) v (d .at) (T .found);
     next = omega (arith, T .next);
@@ -87,77 +124,81 @@ module _ (n : ℕ) (s t : List ℕ) (c : Cursor) (m : ℕ) (o : Bool) (R : Ready
   count-is : size most (c .used) ≡ size n (c .used)
   count-is = size-is n (c .used) (R .few) (R .slot .within)
 
-  module _ (h : here s (c .at) 40 ≡ true) where
-    pub group-bad : c .at < length s → n < size most (c .used) + m + 2 → NoTree n s (c .at)
-    group-bad l k = too-deep n (R .few) s (c .at) (c .used) m o (R .slot) l (here-is s (c .at) 40 h) (omega (arith, k, count-is))
+  module _ (h₀ : here s (c .at) 40 ≡ true) where
+    pub group-bad : n < size most (c .used) + m + 2 → NoTree n s (c .at)
+    group-bad k = too-deep n (R .few) s (c .at) (c .used) m o (R .slot) (here-in s (c .at) 40 h₀) (here-is s (c .at) 40 h₀) (omega (arith, k, count-is))
 
     module _ (deep : size most (c .used) + m + 2 ≤ n) where
       room : size n (c .used) + m + 2 ≤ n
       room = omega (arith, deep, count-is)
 
-      pub left-ready : Ready n s t (record { at = c .at + 1; next = c .next; used = c .used }) (m + 1) true
+      pub left-ready : Ready n s t (ahead c) (m + 1) true
       left-ready = record {
         big = R .big;
         few = R .few;
-        slot = subst (λ (i : ℕ). Slot n s (c .at + 1) (c .used) i true) (sym (add-one m)) (left-slot n (R .few) s (c .at) (c .used) m o (R .slot) h room);
+        slot = subst (λ (i : ℕ). Slot n s (c .at + 1) (c .used) i true) (sym (add-one m)) (left-slot n (R .few) s (c .at) (c .used) m o (R .slot) h₀ room);
         from = R .from;
         numbers = omega (arith, R .numbers);
         len = R .len;
       }
 
-      module _ (t₁ : List ℕ) (d : Cursor) (x : ℕ) (L : Read n s (record { at = c .at + 1; next = c .next; used = c .used }) (m + 1) true t t₁ d x) where
+      module _ (t₁ : List ℕ) (d : Cursor) (x : ℕ) (L : Read n s (ahead c) (m + 1) true t t₁ d x) where
         past-left : Past n s (c .at + 1) (c .used) (suc m) true (L .member) (d .at)
         past-left = subst (λ (i : ℕ). Past n s (c .at + 1) (c .used) i true (L .member) (d .at)) (add-one m) (L .past)
 
         pub comma-bad : here s (d .at) 44 ≡ false → NoTree n s (d .at)
-        comma-bad e = no-comma n (R .few) s (c .at) (c .used) m o (R .slot) h (L .member) (d .at) past-left e
+        comma-bad e = no-comma n (R .few) s (c .at) (c .used) m o (R .slot) h₀ (L .member) (d .at) past-left e
 
         left-size : size n (d .used) ≡ size n (c .used) + suc (groups (L .member))
         left-size = ap (size n) (L .used) ∙ mark-size n (c .used) (suc m) true (L .member) (past-left .fits)
 
         module _ (k : here s (d .at) 44 ≡ true) where
-          pub right-ready : Ready n s t₁ (record { at = d .at + 1; next = d .next; used = d .used }) m o
+          pub right-ready : Ready n s t₁ (ahead d) m o
           right-ready = record {
             big = R .big;
             few = R .few;
-            slot = subst (λ (u : ℕ). Slot n s (d .at + 1) u m o) (sym (L .used)) (right-slot n (R .few) s (c .at) (c .used) m o (R .slot) h (L .member) (d .at) past-left k);
+            slot = subst (λ (u : ℕ). Slot n s (d .at + 1) u m o) (sym (L .used)) (right-slot n (R .few) s (c .at) (c .used) m o (R .slot) h₀ (L .member) (d .at) past-left k);
             from = omega (arith, R .from, L .next);
             numbers = omega (arith, R .numbers, L .next, left-size);
             len = ap length (L .written) ∙ length-rows (L .member) (c .next) t ∙ R .len;
           }
 
-          module _ (t₂ : List ℕ) (f : Cursor) (y : ℕ) (Q : Read n s (record { at = d .at + 1; next = d .next; used = d .used }) m o t₁ t₂ f y) where
+          module _ (t₂ : List ℕ) (f : Cursor) (y : ℕ) (Q : Read n s (ahead d) m o t₁ t₂ f y) where
             past-right : Past n s (d .at + 1) (mark (L .member) (c .used)) m o (Q .member) (f .at)
             past-right = subst (λ (u : ℕ). Past n s (d .at + 1) u m o (Q .member) (f .at)) (L .used) (Q .past)
 
-            pub close-bad : here s (f .at) 41 ≡ false → NoTree n s (f .at)
-            close-bad e = no-close n (R .few) s (c .at) (c .used) m o (R .slot) h (L .member) (d .at) past-left k (Q .member) (f .at) past-right e
-
             -- the parent has the number of a node, and its members' are below
-            pub parent-node : f .next ≤ rows n
+            parent-node : f .next ≤ rows n
             parent-node = omega (arith, R .numbers, L .next, Q .next, left-size, Q .past .fits .room, R .big)
 
-            pub left-node : x < f .next
+            left-node : x < f .next
             left-node = omega (arith, L .named, L .next, Q .next, node-lt n (L .member) (c .next) (below-n n (c .used) (suc m) true (L .member) (past-left .fits)) (R .from))
 
-            pub right-node : y < f .next
+            right-node : y < f .next
             right-node = omega (arith, Q .named, Q .next, node-lt n (Q .member) (d .next) (below-n n (d .used) m o (Q .member) (Q .past .fits)) (omega (arith, R .from, L .next)))
 
-            pub length-right : length t₂ ≡ 2 * rows n
+            length-right : length t₂ ≡ 2 * rows n
             length-right = ap length (Q .written) ∙ length-rows (Q .member) (d .next) t₁ ∙ right-ready .len
 
-            pub second-room : (w : List ℕ) → w ≡ join x (f .next) t₂ → 2 * y + 1 < length w
-            second-room w e = omega (arith, ap length e ∙ length-join t₂ x (f .next) ∙ length-right, right-node, parent-node)
+            pub to-close : Closes s t₂ f x y
+            to-close = record {
+              inside = Q .past .inside;
+              first = omega (arith, left-node, parent-node, length-right);
+              second = omega (arith, right-node, parent-node, length-right);
+              small = (omega (arith, left-node, parent-node, R .few), omega (arith, right-node, parent-node, R .few), omega (arith, parent-node, R .few));
+            }
 
-            pub read-group : here s (f .at) 41 ≡ true → Read n s c m o t (join y (f .next) (join x (f .next) t₂)) (record { at = f .at + 1; next = f .next + 1; used = f .used }) (f .next)
+            pub got-group : (t₃ : List ℕ) (r : Got) → ClosedIs s f x y t₂ t₃ r → GotIs n s c m o t t₃ r
             unfolding withRows node groups mark
-            read-group e = record {
+            got-group t₃ (got.Bad p) (e, h) = subst (NoTree n s) (sym e) (no-close n (R .few) s (c .at) (c .used) m o (R .slot) h₀ (L .member) (d .at) past-left k (Q .member) (f .at) past-right h)
+            got-group t₃ (got.Node g v) C = record {
               member = group (L .member) (Q .member);
-              past = past-group n (R .few) s (c .at) (c .used) m o (R .slot) h (L .member) (d .at) past-left k (Q .member) (f .at) past-right e;
-              next = omega (arith, L .next, Q .next);
-              used = Q .used ∙ ap (mark (Q .member)) (L .used);
-              named = omega (arith, L .next, Q .next);
-              written = joined;
+              past = subst (Past n s (c .at) (c .used) m o (group (L .member) (Q .member))) (sym (ap (λ (z : Cursor). z .at) (C .after)))
+                  (past-group n (R .few) s (c .at) (c .used) m o (R .slot) h₀ (L .member) (d .at) past-left k (Q .member) (f .at) past-right (C .closed));
+              next = ap (λ (z : Cursor). z .next) (C .after) ∙ omega (arith, L .next, Q .next);
+              used = ap (λ (z : Cursor). z .used) (C .after) ∙ Q .used ∙ ap (mark (Q .member)) (L .used);
+              named = C .named ∙ omega (arith, L .next, Q .next);
+              written = C .written ∙ joined;
             }
               where
                 joined : join y (f .next) (join x (f .next) t₂) ≡ withRows (group (L .member) (Q .member)) (c .next) t

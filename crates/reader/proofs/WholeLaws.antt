@@ -7,7 +7,7 @@ use mathlib.Core.List.{List}
 use Prim.Native.Nat.{ℕ, _+_, _*_, _≤_, _<_}
 use native.Mathlib.Omega.{arith}
 use lib.Arith.{lt-of-le-ne}
-use lib.ListN.{length, length-replicate}
+use lib.ListN.{length}
 use borrow.Author.Tests.{lt-ltb, le-ltb}
 use Rattle.taxa.specs.Most.{most}
 use Rattle.taxa.specs.Sets.{size}
@@ -15,13 +15,13 @@ use Rattle.taxa.proofs.Sizes.{size-none, size-le}
 use Rattle.tree.specs.Tree.{rows}
 use Rattle.grammar.specs.Newick.{Outermost, two, three, NoTree}
 use Rattle.grammar.specs.Numbers.{groups, node, join, withRows, blank, smaller, larger, table}
-use Rattle.grammar.proofs.Writes.{length-join}
+use Rattle.grammar.proofs.Writes.{length-join, blank-length}
 use Rattle.grammar.proofs.Valid.{node-lt, length-rows, last-larger}
 use Rattle.reader.specs.declared.Cursor.{Cursor}
 use Rattle.reader.specs.declared.Parsed.{Parsed}
 use Rattle.reader.specs.declared.Parsed.the-variants as parsed
 use Rattle.reader.specs.Slots.{mark, Slot, here, Past, Closing}
-use Rattle.reader.specs.Stages.{Ready, Read, One, Two, EndIs, ParsedIs}
+use Rattle.reader.specs.Stages.{ahead, Ready, Read, One, Two, EndIs, ParsedIs}
 use Rattle.reader.proofs.Members.{below-n, mark-within, mark-size}
 use Rattle.reader.proofs.OuterLaws.{first-slot, no-first-comma, second-slot, no-two-close, two-closing, no-second-comma, third-slot, no-three-close, three-closing, no-semicolon, more-after, whole-text}
 use Rattle.reader.proofs.StageLaws.{size-is}
@@ -31,9 +31,6 @@ end-parsed : (n : ℕ) (s : List ℕ) (p : ℕ) (o : Outermost) → Closing n s 
 end-parsed n s p o C t e parsed.Whole (h, l) = (o, whole-text n s p o C h l, e)
 end-parsed n s p o C t e (parsed.Bad q) (inl (i, h)) = subst (NoTree n s) (sym i) (no-semicolon n s p o C h)
 end-parsed n s p o C t e (parsed.Bad q) (inr (i, h, l)) = subst (NoTree n s) (sym i) (more-after n s p o C h l)
-
-blank-length : (n : ℕ) → length (blank n) ≡ 2 * rows n
-blank-length n = length-replicate (2 * rows n) 0
 
 module _ (n : ℕ) (s : List ℕ) where
   -- ---- the first member
@@ -67,7 +64,7 @@ module _ (n : ℕ) (s : List ℕ) where
     no-second e = no-first-comma n (O .few) s (O .opened) (O .first) (c .at) (O .past) e
 
     module _ (k : here s (c .at) 44 ≡ true) where
-      pub second-ready : Ready n s t (record { at = c .at + 1; next = c .next; used = c .used }) 0 true
+      pub second-ready : Ready n s t (ahead c) 0 true
       second-ready = record {
         big = O .big;
         few = O .few;
@@ -77,7 +74,7 @@ module _ (n : ℕ) (s : List ℕ) where
         len = ap length (O .written) ∙ length-rows (O .first) n (blank n) ∙ blank-length n;
       }
 
-      pub two-read : (t₁ : List ℕ) (d : Cursor) (y : ℕ) → Read n s (record { at = c .at + 1; next = c .next; used = c .used }) 0 true t t₁ d y → Two n s t₁ d x y
+      pub two-read : (t₁ : List ℕ) (d : Cursor) (y : ℕ) → Read n s (ahead c) 0 true t t₁ d y → Two n s t₁ d x y
       two-read t₁ d y Q = record {
         big = O .big;
         few = O .few;
@@ -157,7 +154,7 @@ module _ (n : ℕ) (s : List ℕ) where
       no-third e = no-second-comma n (T .few) s (T .opened) (T .first) (T .place) (T .past-first) (T .parted) (T .second) (c .at) (T .past) some e
 
       module _ (k : here s (c .at) 44 ≡ true) where
-        pub third-ready : Ready n s t (record { at = c .at + 1; next = c .next; used = c .used }) 0 false
+        pub third-ready : Ready n s t (ahead c) 0 false
         third-ready = record {
           big = T .big;
           few = T .few;
@@ -167,7 +164,7 @@ module _ (n : ℕ) (s : List ℕ) where
           len = two-length;
         }
 
-        module _ (t₁ : List ℕ) (d : Cursor) (z : ℕ) (Q : Read n s (record { at = c .at + 1; next = c .next; used = c .used }) 0 false t t₁ d z) where
+        module _ (t₁ : List ℕ) (d : Cursor) (z : ℕ) (Q : Read n s (ahead c) 0 false t t₁ d z) where
           past-third : Past n s (c .at + 1) (mark (T .second) (mark (T .first) 0)) 0 false (Q .member) (d .at)
           past-third = subst (λ (u : ℕ). Past n s (c .at + 1) u 0 false (Q .member) (d .at)) (T .used) (Q .past)
 

@@ -9,14 +9,18 @@ use Rattle.taxa.specs.Most.{most}
 use Rattle.taxa.specs.Sets.{add, size}
 use Rattle.tree.specs.Tree.{rows}
 use Rattle.labels.specs.Labels.{Found, Missed}
-use Rattle.grammar.specs.Newick.{Member, Outermost, Stands, NoTree, opens, comma, semicolon}
-use Rattle.grammar.specs.Numbers.{groups, node, withRows, blank, table}
+use Rattle.grammar.specs.Newick.{Member, Outermost, Stands, NoTree, opens, comma, closes, semicolon}
+use Rattle.grammar.specs.Numbers.{groups, node, join, withRows, blank, table}
 use Rattle.reader.specs.Slots.{mark, allowed, Slot, here, Past}
 use Rattle.reader.specs.declared.Cursor.{Cursor}
 use Rattle.reader.specs.declared.Got.{Got}
 use Rattle.reader.specs.declared.Got.the-variants as got
 use Rattle.reader.specs.declared.Parsed.{Parsed}
 use Rattle.reader.specs.declared.Parsed.the-variants as parsed
+
+-- the cursor one byte on
+abbrev pub ahead : Cursor → Cursor
+ahead c = record { at = c .at + 1; next = c .next; used = c .used }
 
 -- ---- a taxon
 
@@ -55,6 +59,24 @@ pub record Read (n : ℕ) (s : List ℕ) (c : Cursor) (m : ℕ) (o : Bool) (t t�
 abbrev pub GotIs : ℕ → List ℕ → Cursor → ℕ → Bool → List ℕ → List ℕ → Got → Type 0
 GotIs n s c m o t t′ (got.Node d v) = Read n s c m o t t′ d v
 GotIs n s c m o t t′ (got.Bad p) = NoTree n s p
+
+-- the rows of x and y, whose parent has the next number, are in the table
+pub record Closes (s t : List ℕ) (c : Cursor) (x y : ℕ) : Type 0 where
+  pub inside : c .at ≤ length s
+  pub first : 2 * x + 1 < length t
+  pub second : 2 * y + 1 < length t
+  pub small : (x < 256) × (y < 256) × (c .next < 256)
+
+-- a parenthesis closes their group, and the two rows are written; or none does
+pub record Closed (s : List ℕ) (c : Cursor) (x y : ℕ) (t t′ : List ℕ) (d : Cursor) (v : ℕ) : Type 0 where
+  pub closed : here s (c .at) closes ≡ true
+  pub after : d ≡ record { at = c .at + 1; next = c .next + 1; used = c .used }
+  pub named : v ≡ c .next
+  pub written : t′ ≡ join y (c .next) (join x (c .next) t)
+
+abbrev pub ClosedIs : List ℕ → Cursor → ℕ → ℕ → List ℕ → List ℕ → Got → Type 0
+ClosedIs s c x y t t′ (got.Node d v) = Closed s c x y t t′ d v
+ClosedIs s c x y t t′ (got.Bad p) = (p ≡ c .at) × (here s (c .at) closes ≡ false)
 
 -- ---- the outermost group
 

@@ -1,6 +1,6 @@
 // The reader of Newick text: one tree as a table, or the first byte at which
 // no continuation is a tree.
-ghost use Prim.Native.Nat.{_+_, _*_, _<_, _≤_};
+ghost use Prim.Native.Nat.{_+_, _*_, _^_, _<_, _≤_};
 ghost use mathlib.Core.Path.{_≡_};
 ghost use lib.ListN.{length};
 ghost use Rattle.taxa.specs.Most.{most};
@@ -8,7 +8,8 @@ ghost use Rattle.taxa.specs.Sets.{size};
 ghost use Rattle.grammar.specs.Numbers as numbers;
 ghost use Rattle.grammar.specs.Numbers.{blank};
 ghost use Rattle.reader.specs.Slots.{Within, allowed, here};
-ghost use Rattle.reader.specs.Stages.{TakenIs, Ready, GotIs, One, Two, EndIs, ParsedIs};
+ghost use Rattle.reader.specs.Stages as stages;
+ghost use Rattle.reader.specs.Stages.{TakenIs, Closes, ClosedIs, Ready, GotIs, One, Two, EndIs, ParsedIs};
 ghost use Rattle.reader.specs.Promises.{Plants};
 use labels::Label;
 use table::Refusal;
@@ -68,11 +69,26 @@ fn free_taxa(n: usize, used: u64, more: bool) -> u64
     0
 }
 
+// The cursor one byte on.
+fn ahead(c: Cursor) -> Cursor
+    requires { ⌜ c .at + 1 < 2 ^ 64 ⌝ }
+    ensures { λ d. ⌜ d ≡ stages.ahead c ⌝ }
+{
+    Cursor {
+        at: c.at + 1,
+        next: c.next,
+        used: c.used,
+    }
+}
+
 // The taxon whose label stands at a slot.
 fn taxon_at(s: &[u8], n: usize, c: Cursor, more: bool) -> Got
-    requires { ⌜ (c .at < length (now s)) × (4 ≤ n) × (n ≤ most) × Within n (c .used) ⌝ }
+    requires { ⌜ (c .at ≤ length (now s)) × (4 ≤ n) × (n ≤ most) × Within n (c .used) ⌝ }
     ensures { λ r. ⌜ TakenIs n (now (s .entry)) c more r ⌝ }
 {
+    if s.len() <= c.at {
+        return Got::Bad(c.at);
+    }
     let used = c.used;
     let free = free_taxa(n, used, more);
     match labels::read(s, c.at, free) {
@@ -97,6 +113,29 @@ fn join(table: &mut [u8], v: usize, p: usize)
     table[2 * v + 1] = p as u8;
 }
 
+// The end of a group whose members are the nodes x and y: its node has the
+// next number, and their rows are written.
+fn close(s: &[u8], c: Cursor, x: usize, y: usize, table: &mut [u8]) -> Got
+    requires { ⌜ Closes (now s) (now table) c x y ⌝ }
+    ensures { λ r. ⌜ ClosedIs (now (s .entry)) c x y (now (table .entry)) (now (table .exit)) r ⌝ }
+{
+    let at = c.at;
+    if !is_at(s, at, 41) {
+        return Got::Bad(at);
+    }
+    let p = c.next;
+    join(table, x, p);
+    join(table, y, p);
+    Got::Node(
+        Cursor {
+            at: at + 1,
+            next: p + 1,
+            used: c.used,
+        },
+        p,
+    )
+}
+
 // The member at a slot, its rows written into the table. At least `least`
 // members must follow it, and others may where `more` says so.
 fn member(s: &[u8], n: usize, c: Cursor, least: usize, more: bool, table: &mut [u8]) -> Got
@@ -104,30 +143,14 @@ fn member(s: &[u8], n: usize, c: Cursor, least: usize, more: bool, table: &mut [
     ensures { λ r. ⌜ GotIs n (now (s .entry)) c least more (now (table .entry)) (now (table .exit)) r ⌝ }
 {
     let at = c.at;
-    let next = c.next;
-    let used = c.used;
-    if s.len() <= at {
-        return Got::Bad(at);
-    }
     if !is_at(s, at, 40) {
-        return taxon_at(s, n, Cursor { at, next, used }, more);
+        return taxon_at(s, n, c, more);
     }
     // both of its members need a taxon
-    if n < taxa::size(used) + least + 2 {
+    if n < taxa::size(c.used) + least + 2 {
         return Got::Bad(at);
     }
-    let first = member(
-        s,
-        n,
-        Cursor {
-            at: at + 1,
-            next,
-            used,
-        },
-        least + 1,
-        true,
-        table,
-    );
+    let first = member(s, n, ahead(c), least + 1, true, table);
     let Got::Node(c1, x) = first else {
         return first;
     };
@@ -135,36 +158,11 @@ fn member(s: &[u8], n: usize, c: Cursor, least: usize, more: bool, table: &mut [
     if !is_at(s, at1, 44) {
         return Got::Bad(at1);
     }
-    let second = member(
-        s,
-        n,
-        Cursor {
-            at: at1 + 1,
-            next: c1.next,
-            used: c1.used,
-        },
-        least,
-        more,
-        table,
-    );
+    let second = member(s, n, ahead(c1), least, more, table);
     let Got::Node(c2, y) = second else {
         return second;
     };
-    let at2 = c2.at;
-    if !is_at(s, at2, 41) {
-        return Got::Bad(at2);
-    }
-    let p = c2.next;
-    join(table, x, p);
-    join(table, y, p);
-    Got::Node(
-        Cursor {
-            at: at2 + 1,
-            next: p + 1,
-            used: c2.used,
-        },
-        p,
-    )
+    close(s, c2, x, y, table)
 }
 
 // The semicolon at a place, and nothing after it.
@@ -203,18 +201,7 @@ fn third(s: &[u8], n: usize, c: Cursor, x: usize, y: usize, table: &mut [u8]) ->
     if !is_at(s, at, 44) {
         return Parsed::Bad(at);
     }
-    match member(
-        s,
-        n,
-        Cursor {
-            at: at + 1,
-            next: c.next,
-            used: c.used,
-        },
-        0,
-        false,
-        table,
-    ) {
+    match member(s, n, ahead(c), 0, false, table) {
         Got::Bad(q) => Parsed::Bad(q),
         Got::Node(d, z) => {
             let end = d.at;
@@ -237,12 +224,10 @@ fn after_two(s: &[u8], n: usize, c: Cursor, x: usize, y: usize, table: &mut [u8]
     requires { ⌜ Two n (now s) (now table) c x y ⌝ }
     ensures { λ r. ⌜ ParsedIs n (now (s .entry)) (now (table .exit)) r ⌝ }
 {
-    let at = c.at;
-    let next = c.next;
-    let used = c.used;
-    if taxa::size(used) != n {
-        return third(s, n, Cursor { at, next, used }, x, y, table);
+    if taxa::size(c.used) != n {
+        return third(s, n, c, x, y, table);
     }
+    let at = c.at;
     if !is_at(s, at, 41) {
         return Parsed::Bad(at);
     }
@@ -259,18 +244,7 @@ fn after_one(s: &[u8], n: usize, c: Cursor, x: usize, table: &mut [u8]) -> Parse
     if !is_at(s, at, 44) {
         return Parsed::Bad(at);
     }
-    match member(
-        s,
-        n,
-        Cursor {
-            at: at + 1,
-            next: c.next,
-            used: c.used,
-        },
-        0,
-        true,
-        table,
-    ) {
+    match member(s, n, ahead(c), 0, true, table) {
         Got::Bad(p) => Parsed::Bad(p),
         Got::Node(d, y) => after_two(s, n, d, x, y, table),
     }

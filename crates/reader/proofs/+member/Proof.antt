@@ -1,9 +1,4 @@
 -- `reader::member` meets its contract. Assumes nothing.
-use Rattle.reader.proofs.StageLaws.{bad-again, second-room, read-is, text-ended, got-taxon, group-bad, left-ready, comma-bad, right-ready, close-bad, parent-node, left-node, right-node, length-right, read-group}
-use mathlib.Core.Path.{_≡_, sym, ap, subst, _∙_}
-use Rattle.grammar.specs.Numbers.{join}
-use Rattle.reader.specs.Stages.{Read}
-use Rattle.reader.proofs.Places.{here-in}
 use mathlib.Core.Path.{_≡_, sym, ap, _∙_}
 use mathlib.Core.Bool.{true}
 use native.Mathlib.Omega.{arith}
@@ -13,6 +8,9 @@ use borrow.Author.Tests.{not-true, not-false}
 use Rattle.taxa.specs.Sets.{size}
 use Rattle.taxa.proofs.Sizes.{size-le}
 use Rattle.reader.specs.Slots.{here}
+use Rattle.reader.specs.Stages.{ahead}
+use Rattle.reader.proofs.Places.{here-in}
+use Rattle.reader.proofs.StageLaws.{bad-again, read-is, ready-at, got-taxon, group-bad, left-ready, comma-bad, right-ready, to-close, got-group}
 use borrow.Author.Needs.{needs}
 use Prim.Native.Nat.{ℕ, _<_}
 use borrow.Fn.Kinds.{In}
@@ -20,8 +18,9 @@ use borrow.Fn.PlainCycle.{Measures, is, falls, and}
 use Rattle.reader.proofs.member.Reads as member
 use Rattle.reader.proofs.member.Kinds as member-kinds
 use Rattle.reader.proofs.+member.Lts-member as member-lts
+use Rattle.reader.proofs.ahead.Reads as ahead-reads
+use Rattle.reader.proofs.close.Reads as close-reads
 use Rattle.reader.proofs.is_at.Reads as is-at-reads
-use Rattle.reader.proofs.join.Reads as join-reads
 use Rattle.reader.proofs.taxon_at.Reads as taxon-at-reads
 use Rattle.taxa.proofs.size.Reads as size-reads
 use Rattle.reader.proofs.+member.{statement}
@@ -39,41 +38,37 @@ member-below t = and 2 member-kinds.ps (falls 2 member-kinds.ps _<_ μ-member t)
 
 -- what the calls ask and give
 abbrev claims : ℕ → member-lts.Claims
-claims t = (is-at-reads.Asked, is-at-reads.Learnt, taxon-at-reads.Asked, taxon-at-reads.Learnt, size-reads.Asked, size-reads.Learnt, member-below t, member.Post, join-reads.Asked, join-reads.Learnt)
-
-member-returns : (t : ℕ) → member-lts.Need-returns (claims t) (member-at t) member.Post
-member-returns t c =
-    let s = c .before .before .before .args .s .now in let n = c .before .before .before .args .n in let u = c .before .before .before .args .table .now in let k = c .before .before .before .args .c in let m = c .before .before .before .args .least in let o = c .before .before .before .args .more in let R = c .before .before .before .pre .1 in text-ended n s u k m o R (c .if1 .taken)
+claims t = (is-at-reads.Asked, is-at-reads.Learnt, taxon-at-reads.Asked, taxon-at-reads.Learnt, size-reads.Asked, size-reads.Learnt, ahead-reads.Asked, ahead-reads.Learnt, member-below t, member.Post, close-reads.Asked, close-reads.Learnt)
 
 member-is-at-requires : (t : ℕ) → member-lts.Need-is-at-requires (claims t) (member-at t) member.Post
 member-is-at-requires t c κs = search needs
 
 member-taxon-at-requires : (t : ℕ) → member-lts.Need-taxon-at-requires (claims t) (member-at t) member.Post
 member-taxon-at-requires t c κs =
-    let s = c .before .before .before .before .before .args .s .now in let n = c .before .before .before .before .before .args .n in let u = c .before .before .before .before .before .args .table .now in let k = c .before .before .before .before .before .args .c in let m = c .before .before .before .before .before .args .least in let o = c .before .before .before .before .before .args .more in let R = c .before .before .before .before .before .pre .1 in (c .before .before .if1 .left, R .big, R .few, R .slot .within)
+    let s = c .before .before .before .before .args .s .now in let n = c .before .before .before .before .args .n in let u = c .before .before .before .before .args .table .now in let k = c .before .before .before .before .args .c in let m = c .before .before .before .before .args .least in let o = c .before .before .before .before .args .more in let R = c .before .before .before .before .pre .1 in (R .slot .inside, R .big, R .few, R .slot .within)
 
-member-returns-2 : (t : ℕ) → member-lts.Need-returns-2 (claims t) (member-at t) member.Post
-member-returns-2 t c =
-    let s = c .before .before .before .before .before .before .args .s .now in let n = c .before .before .before .before .before .before .args .n in let u = c .before .before .before .before .before .before .args .table .now in let k = c .before .before .before .before .before .before .args .c in let m = c .before .before .before .before .before .before .args .least in let o = c .before .before .before .before .before .before .args .more in let R = c .before .before .before .before .before .before .pre .1 in got-taxon n s u k m o R (sym (c .before .before .is-at .ensures) ∙ not-true _ (c .before .if2 .taken)) (c .before .before .before .if1 .left) (c .taxon-at .result) (c .taxon-at .ensures)
+member-returns : (t : ℕ) → member-lts.Need-returns (claims t) (member-at t) member.Post
+member-returns t c =
+    let s = c .before .before .before .before .before .args .s .now in let n = c .before .before .before .before .before .args .n in let u = c .before .before .before .before .before .args .table .now in let k = c .before .before .before .before .before .args .c in let m = c .before .before .before .before .before .args .least in let o = c .before .before .before .before .before .args .more in let R = c .before .before .before .before .before .pre .1 in got-taxon n s u k m o R (sym (c .before .before .is-at .ensures) ∙ not-true _ (c .before .if1 .taken)) (c .taxon-at .result) (c .taxon-at .ensures)
 
 member-size-requires : (t : ℕ) → member-lts.Need-size-requires (claims t) (member-at t) member.Post
 member-size-requires t c κs = search needs
 
-member-add-if3 : (t : ℕ) → member-lts.Need-add-if3 (claims t) (member-at t) member.Post
-member-add-if3 t c =
-    let s = c .before .before .before .before .before .before .args .s .now in let n = c .before .before .before .before .before .before .args .n in let u = c .before .before .before .before .before .before .args .table .now in let k = c .before .before .before .before .before .before .args .c in let m = c .before .before .before .before .before .before .args .least in let o = c .before .before .before .before .before .before .args .more in let R = c .before .before .before .before .before .before .pre .1 in let z = size-le 64 (k .used) in let e = c .size .ensures in let r = R .slot .room in let f = R .few in search needs
+member-add-if2 : (t : ℕ) → member-lts.Need-add-if2 (claims t) (member-at t) member.Post
+member-add-if2 t c =
+    let s = c .before .before .before .before .before .args .s .now in let n = c .before .before .before .before .before .args .n in let u = c .before .before .before .before .before .args .table .now in let k = c .before .before .before .before .before .args .c in let m = c .before .before .before .before .before .args .least in let o = c .before .before .before .before .before .args .more in let R = c .before .before .before .before .before .pre .1 in let z = size-le 64 (k .used) in let e = c .size .ensures in let r = R .slot .room in let f = R .few in search needs
 
-member-add-if3-2 : (t : ℕ) → member-lts.Need-add-if3-2 (claims t) (member-at t) member.Post
-member-add-if3-2 t c =
-    let s = c .before .before .before .before .before .before .args .s .now in let n = c .before .before .before .before .before .before .args .n in let u = c .before .before .before .before .before .before .args .table .now in let k = c .before .before .before .before .before .before .args .c in let m = c .before .before .before .before .before .before .args .least in let o = c .before .before .before .before .before .before .args .more in let R = c .before .before .before .before .before .before .pre .1 in let z = size-le 64 (k .used) in let e = c .size .ensures in let r = R .slot .room in let f = R .few in search needs
+member-add-if2-2 : (t : ℕ) → member-lts.Need-add-if2-2 (claims t) (member-at t) member.Post
+member-add-if2-2 t c =
+    let s = c .before .before .before .before .before .args .s .now in let n = c .before .before .before .before .before .args .n in let u = c .before .before .before .before .before .args .table .now in let k = c .before .before .before .before .before .args .c in let m = c .before .before .before .before .before .args .least in let o = c .before .before .before .before .before .args .more in let R = c .before .before .before .before .before .pre .1 in let z = size-le 64 (k .used) in let e = c .size .ensures in let r = R .slot .room in let f = R .few in search needs
 
-member-returns-3 : (t : ℕ) → member-lts.Need-returns-3 (claims t) (member-at t) member.Post
-member-returns-3 t c =
-    let s = c .before .before .before .before .before .before .before .args .s .now in let n = c .before .before .before .before .before .before .before .args .n in let u = c .before .before .before .before .before .before .before .args .table .now in let k = c .before .before .before .before .before .before .before .args .c in let m = c .before .before .before .before .before .before .before .args .least in let o = c .before .before .before .before .before .before .before .args .more in let R = c .before .before .before .before .before .before .before .pre .1 in let H : here s (k .at) 40 ≡ true = sym (c .before .before .before .is-at .ensures) ∙ not-false _ (c .before .before .if2 .left) in group-bad n s u k m o R H (c .before .before .before .before .if1 .left) (omega (arith, c .if3 .taken, c .before .size .ensures))
+member-returns-2 : (t : ℕ) → member-lts.Need-returns-2 (claims t) (member-at t) member.Post
+member-returns-2 t c =
+    let s = c .before .before .before .before .before .before .args .s .now in let n = c .before .before .before .before .before .before .args .n in let u = c .before .before .before .before .before .before .args .table .now in let k = c .before .before .before .before .before .before .args .c in let m = c .before .before .before .before .before .before .args .least in let o = c .before .before .before .before .before .before .args .more in let R = c .before .before .before .before .before .before .pre .1 in let H : here s (k .at) 40 ≡ true = sym (c .before .before .before .is-at .ensures) ∙ not-false _ (c .before .before .if1 .left) in group-bad n s u k m o R H (omega (arith, c .if2 .taken, c .before .size .ensures))
 
-member-add-t19 : (t : ℕ) → member-lts.Need-add-t19 (claims t) (member-at t) member.Post
-member-add-t19 t c =
-    let s = c .before .before .before .before .before .before .before .args .s .now in let n = c .before .before .before .before .before .before .before .args .n in let u = c .before .before .before .before .before .before .before .args .table .now in let k = c .before .before .before .before .before .before .before .args .c in let m = c .before .before .before .before .before .before .before .args .least in let o = c .before .before .before .before .before .before .before .args .more in let R = c .before .before .before .before .before .before .before .pre .1 in search needs
+member-ahead-requires : (t : ℕ) → member-lts.Need-ahead-requires (claims t) (member-at t) member.Post
+member-ahead-requires t c κs =
+    let s = c .before .before .before .before .before .before .args .s .now in let n = c .before .before .before .before .before .before .args .n in let u = c .before .before .before .before .before .before .args .table .now in let k = c .before .before .before .before .before .before .args .c in let m = c .before .before .before .before .before .before .args .least in let o = c .before .before .before .before .before .before .args .more in let R = c .before .before .before .before .before .before .pre .1 in let H : here s (k .at) 40 ≡ true = sym (c .before .before .before .is-at .ensures) ∙ not-false _ (c .before .before .if1 .left) in let i = here-in s _ 40 H in let b = c .before .before .before .before .before .before .good .0 in search needs
 
 member-add-member : (t : ℕ) → member-lts.Need-add-member (claims t) (member-at t) member.Post
 member-add-member t c =
@@ -81,7 +76,7 @@ member-add-member t c =
 
 member-member-requires : (t : ℕ) → member-lts.Need-member-requires (claims t) (member-at t) member.Post
 member-member-requires t c κs =
-    let s = c .before .before .before .before .before .before .before .before .args .s .now in let n = c .before .before .before .before .before .before .before .before .args .n in let u = c .before .before .before .before .before .before .before .before .args .table .now in let k = c .before .before .before .before .before .before .before .before .args .c in let m = c .before .before .before .before .before .before .before .before .args .least in let o = c .before .before .before .before .before .before .before .before .args .more in let R = c .before .before .before .before .before .before .before .before .pre .1 in let H : here s (k .at) 40 ≡ true = sym (c .before .before .before .before .is-at .ensures) ∙ not-false _ (c .before .before .before .if2 .left) in let D : size 64 (k .used) + m + 2 ≤ n = omega (arith, c .before .if3 .left, c .before .before .size .ensures) in (omega (arith, c .before .before .before .before .before .before .before .before .pre .0, c .before .before .before .before .before .if1 .left), left-ready n s u k m o R H D)
+    let s = c .before .before .before .before .before .before .before .before .args .s .now in let n = c .before .before .before .before .before .before .before .before .args .n in let u = c .before .before .before .before .before .before .before .before .args .table .now in let k = c .before .before .before .before .before .before .before .before .args .c in let m = c .before .before .before .before .before .before .before .before .args .least in let o = c .before .before .before .before .before .before .before .before .args .more in let R = c .before .before .before .before .before .before .before .before .pre .1 in let H : here s (k .at) 40 ≡ true = sym (c .before .before .before .before .before .is-at .ensures) ∙ not-false _ (c .before .before .before .before .if1 .left) in let D : size 64 (k .used) + m + 2 ≤ n = omega (arith, c .before .before .if2 .left, c .before .before .before .size .ensures) in (omega (arith, c .before .before .before .before .before .before .before .before .pre .0, here-in s _ 40 H, ap (λ z. z .at) (c .before .ahead .ensures)), ready-at n s u _ (ahead k) (m + 1) true (c .before .ahead .ensures) (left-ready n s u k m o R H D))
 
 member-enum-known-first : (t : ℕ) → member-lts.Need-enum-known-first (claims t) (member-at t) member.Post
 member-enum-known-first t c = search needs
@@ -92,8 +87,8 @@ member-enum-told t c = search needs
 member-same-length : (t : ℕ) → member-lts.Need-same-length (claims t) (member-at t) member.Post
 member-same-length t c = search needs
 
-member-returns-4 : (t : ℕ) → member-lts.Need-returns-4 (claims t) (member-at t) member.Post
-member-returns-4 t c =
+member-returns-3 : (t : ℕ) → member-lts.Need-returns-3 (claims t) (member-at t) member.Post
+member-returns-3 t c =
     let s = c .before .before .before .before .before .before .before .before .before .before .before .before .before .args .s .now in let n = c .before .before .before .before .before .before .before .before .before .before .before .before .before .args .n in let u = c .before .before .before .before .before .before .before .before .before .before .before .before .before .args .table .now in let k = c .before .before .before .before .before .before .before .before .before .before .before .before .before .args .c in let m = c .before .before .before .before .before .before .before .before .before .before .before .before .before .args .least in let o = c .before .before .before .before .before .before .before .before .before .before .before .before .before .args .more in let R = c .before .before .before .before .before .before .before .before .before .before .before .before .before .pre .1 in bad-again n s (c .before .before .before .before .member .result) _ k _ m _ o _ _ u _ _ (c .enum-told .given .1) (c .before .before .before .before .member .ensures)
 
 member-is-at-requires-2 : (t : ℕ) → member-lts.Need-is-at-requires-2 (claims t) (member-at t) member.Post
@@ -102,17 +97,17 @@ member-is-at-requires-2 t c κs = search needs
 member-same-length-2 : (t : ℕ) → member-lts.Need-same-length-2 (claims t) (member-at t) member.Post
 member-same-length-2 t c = search needs
 
-member-returns-5 : (t : ℕ) → member-lts.Need-returns-5 (claims t) (member-at t) member.Post
-member-returns-5 t c =
-    let s = c .before .before .before .before .before .before .before .before .before .before .before .before .before .before .before .before .args .s .now in let n = c .before .before .before .before .before .before .before .before .before .before .before .before .before .before .before .before .args .n in let u = c .before .before .before .before .before .before .before .before .before .before .before .before .before .before .before .before .args .table .now in let k = c .before .before .before .before .before .before .before .before .before .before .before .before .before .before .before .before .args .c in let m = c .before .before .before .before .before .before .before .before .before .before .before .before .before .before .before .before .args .least in let o = c .before .before .before .before .before .before .before .before .before .before .before .before .before .before .before .before .args .more in let R = c .before .before .before .before .before .before .before .before .before .before .before .before .before .before .before .before .pre .1 in let H : here s (k .at) 40 ≡ true = sym (c .before .before .before .before .before .before .before .before .before .before .before .before .is-at .ensures) ∙ not-false _ (c .before .before .before .before .before .before .before .before .before .before .before .if2 .left) in let D : size 64 (k .used) + m + 2 ≤ n = omega (arith, c .before .before .before .before .before .before .before .before .before .if3 .left, c .before .before .before .before .before .before .before .before .before .before .size .ensures) in let L = read-is n s (c .before .before .before .before .before .before .before .member .result) (record { at = k .at + 1; next = k .next; used = k .used }) _ (m + 1) _ true u _ (c .before .before .before .first .given .1) (c .before .before .before .before .before .before .before .member .ensures) in comma-bad n s u k m o R H D _ _ _ L (sym (c .before .is-at2 .ensures) ∙ not-true _ (c .if4 .taken))
+member-returns-4 : (t : ℕ) → member-lts.Need-returns-4 (claims t) (member-at t) member.Post
+member-returns-4 t c =
+    let s = c .before .before .before .before .before .before .before .before .before .before .before .before .before .before .before .before .args .s .now in let n = c .before .before .before .before .before .before .before .before .before .before .before .before .before .before .before .before .args .n in let u = c .before .before .before .before .before .before .before .before .before .before .before .before .before .before .before .before .args .table .now in let k = c .before .before .before .before .before .before .before .before .before .before .before .before .before .before .before .before .args .c in let m = c .before .before .before .before .before .before .before .before .before .before .before .before .before .before .before .before .args .least in let o = c .before .before .before .before .before .before .before .before .before .before .before .before .before .before .before .before .args .more in let R = c .before .before .before .before .before .before .before .before .before .before .before .before .before .before .before .before .pre .1 in let H : here s (k .at) 40 ≡ true = sym (c .before .before .before .before .before .before .before .before .before .before .before .before .before .is-at .ensures) ∙ not-false _ (c .before .before .before .before .before .before .before .before .before .before .before .before .if1 .left) in let D : size 64 (k .used) + m + 2 ≤ n = omega (arith, c .before .before .before .before .before .before .before .before .before .before .if2 .left, c .before .before .before .before .before .before .before .before .before .before .before .size .ensures) in let L = read-is n s (c .before .before .before .before .before .before .before .member .result) _ (ahead k) _ (m + 1) _ true u _ (c .before .before .before .before .before .before .before .before .before .ahead .ensures) (c .before .before .before .first .given .1) (c .before .before .before .before .before .before .before .member .ensures) in comma-bad n s u k m o R H D _ _ _ L (sym (c .before .is-at2 .ensures) ∙ not-true _ (c .if3 .taken))
 
-member-add-t23 : (t : ℕ) → member-lts.Need-add-t23 (claims t) (member-at t) member.Post
-member-add-t23 t c =
-    let s = c .before .before .before .before .before .before .before .before .before .before .before .before .before .before .before .before .args .s .now in let n = c .before .before .before .before .before .before .before .before .before .before .before .before .before .before .before .before .args .n in let u = c .before .before .before .before .before .before .before .before .before .before .before .before .before .before .before .before .args .table .now in let k = c .before .before .before .before .before .before .before .before .before .before .before .before .before .before .before .before .args .c in let m = c .before .before .before .before .before .before .before .before .before .before .before .before .before .before .before .before .args .least in let o = c .before .before .before .before .before .before .before .before .before .before .before .before .before .before .before .before .args .more in let R = c .before .before .before .before .before .before .before .before .before .before .before .before .before .before .before .before .pre .1 in let H : here s (k .at) 40 ≡ true = sym (c .before .before .before .before .before .before .before .before .before .before .before .before .is-at .ensures) ∙ not-false _ (c .before .before .before .before .before .before .before .before .before .before .before .if2 .left) in let D : size 64 (k .used) + m + 2 ≤ n = omega (arith, c .before .before .before .before .before .before .before .before .before .if3 .left, c .before .before .before .before .before .before .before .before .before .before .size .ensures) in let L = read-is n s (c .before .before .before .before .before .before .before .member .result) (record { at = k .at + 1; next = k .next; used = k .used }) _ (m + 1) _ true u _ (c .before .before .before .first .given .1) (c .before .before .before .before .before .before .before .member .ensures) in let K : here s _ 44 ≡ true = sym (c .before .is-at2 .ensures) ∙ not-false _ (c .if4 .left) in let i = here-in s _ 44 K in search needs
+member-ahead-requires-2 : (t : ℕ) → member-lts.Need-ahead-requires-2 (claims t) (member-at t) member.Post
+member-ahead-requires-2 t c κs =
+    let s = c .before .before .before .before .before .before .before .before .before .before .before .before .before .before .before .before .args .s .now in let n = c .before .before .before .before .before .before .before .before .before .before .before .before .before .before .before .before .args .n in let u = c .before .before .before .before .before .before .before .before .before .before .before .before .before .before .before .before .args .table .now in let k = c .before .before .before .before .before .before .before .before .before .before .before .before .before .before .before .before .args .c in let m = c .before .before .before .before .before .before .before .before .before .before .before .before .before .before .before .before .args .least in let o = c .before .before .before .before .before .before .before .before .before .before .before .before .before .before .before .before .args .more in let R = c .before .before .before .before .before .before .before .before .before .before .before .before .before .before .before .before .pre .1 in let K : here s _ 44 ≡ true = sym (c .before .is-at2 .ensures) ∙ not-false _ (c .if3 .left) in let i = here-in s _ 44 K in let b = c .before .before .before .before .before .before .before .before .before .before .before .before .before .before .before .before .good .0 in search needs
 
 member-member-requires-2 : (t : ℕ) → member-lts.Need-member-requires-2 (claims t) (member-at t) member.Post
 member-member-requires-2 t c κs =
-    let s = c .before .before .before .before .before .before .before .before .before .before .before .before .before .before .before .before .before .args .s .now in let n = c .before .before .before .before .before .before .before .before .before .before .before .before .before .before .before .before .before .args .n in let u = c .before .before .before .before .before .before .before .before .before .before .before .before .before .before .before .before .before .args .table .now in let k = c .before .before .before .before .before .before .before .before .before .before .before .before .before .before .before .before .before .args .c in let m = c .before .before .before .before .before .before .before .before .before .before .before .before .before .before .before .before .before .args .least in let o = c .before .before .before .before .before .before .before .before .before .before .before .before .before .before .before .before .before .args .more in let R = c .before .before .before .before .before .before .before .before .before .before .before .before .before .before .before .before .before .pre .1 in let H : here s (k .at) 40 ≡ true = sym (c .before .before .before .before .before .before .before .before .before .before .before .before .before .is-at .ensures) ∙ not-false _ (c .before .before .before .before .before .before .before .before .before .before .before .before .if2 .left) in let D : size 64 (k .used) + m + 2 ≤ n = omega (arith, c .before .before .before .before .before .before .before .before .before .before .if3 .left, c .before .before .before .before .before .before .before .before .before .before .before .size .ensures) in let L = read-is n s (c .before .before .before .before .before .before .before .before .member .result) (record { at = k .at + 1; next = k .next; used = k .used }) _ (m + 1) _ true u _ (c .before .before .before .before .first .given .1) (c .before .before .before .before .before .before .before .before .member .ensures) in let K : here s _ 44 ≡ true = sym (c .before .before .is-at2 .ensures) ∙ not-false _ (c .before .if4 .left) in (omega (arith, c .before .before .before .before .before .before .before .before .before .before .before .before .before .before .before .before .before .pre .0, L .past .moved, L .past .inside), right-ready n s u k m o R H D _ _ _ L K)
+    let s = c .before .before .before .before .before .before .before .before .before .before .before .before .before .before .before .before .before .before .args .s .now in let n = c .before .before .before .before .before .before .before .before .before .before .before .before .before .before .before .before .before .before .args .n in let u = c .before .before .before .before .before .before .before .before .before .before .before .before .before .before .before .before .before .before .args .table .now in let k = c .before .before .before .before .before .before .before .before .before .before .before .before .before .before .before .before .before .before .args .c in let m = c .before .before .before .before .before .before .before .before .before .before .before .before .before .before .before .before .before .before .args .least in let o = c .before .before .before .before .before .before .before .before .before .before .before .before .before .before .before .before .before .before .args .more in let R = c .before .before .before .before .before .before .before .before .before .before .before .before .before .before .before .before .before .before .pre .1 in let H : here s (k .at) 40 ≡ true = sym (c .before .before .before .before .before .before .before .before .before .before .before .before .before .before .before .is-at .ensures) ∙ not-false _ (c .before .before .before .before .before .before .before .before .before .before .before .before .before .before .if1 .left) in let D : size 64 (k .used) + m + 2 ≤ n = omega (arith, c .before .before .before .before .before .before .before .before .before .before .before .before .if2 .left, c .before .before .before .before .before .before .before .before .before .before .before .before .before .size .ensures) in let L = read-is n s (c .before .before .before .before .before .before .before .before .before .member .result) _ (ahead k) _ (m + 1) _ true u _ (c .before .before .before .before .before .before .before .before .before .before .before .ahead .ensures) (c .before .before .before .before .before .first .given .1) (c .before .before .before .before .before .before .before .before .before .member .ensures) in let K : here s _ 44 ≡ true = sym (c .before .before .before .is-at2 .ensures) ∙ not-false _ (c .before .before .if3 .left) in (omega (arith, c .before .before .before .before .before .before .before .before .before .before .before .before .before .before .before .before .before .before .pre .0, L .past .moved, here-in s _ 44 K, ap (λ z. z .at) (c .before .ahead2 .ensures)), ready-at n s _ _ (ahead (c .before .before .before .before .before .first .given .0 .0)) m o (c .before .ahead2 .ensures) (right-ready n s u k m o R H D _ _ _ L K))
 
 member-enum-known-second : (t : ℕ) → member-lts.Need-enum-known-second (claims t) (member-at t) member.Post
 member-enum-known-second t c = search needs
@@ -123,77 +118,48 @@ member-enum-told-2 t c = search needs
 member-same-length-3 : (t : ℕ) → member-lts.Need-same-length-3 (claims t) (member-at t) member.Post
 member-same-length-3 t c = search needs
 
-member-returns-6 : (t : ℕ) → member-lts.Need-returns-6 (claims t) (member-at t) member.Post
-member-returns-6 t c =
-    let s = c .before .before .before .before .before .before .before .before .before .before .before .before .before .before .before .before .before .before .before .before .before .before .args .s .now in let n = c .before .before .before .before .before .before .before .before .before .before .before .before .before .before .before .before .before .before .before .before .before .before .args .n in let u = c .before .before .before .before .before .before .before .before .before .before .before .before .before .before .before .before .before .before .before .before .before .before .args .table .now in let k = c .before .before .before .before .before .before .before .before .before .before .before .before .before .before .before .before .before .before .before .before .before .before .args .c in let m = c .before .before .before .before .before .before .before .before .before .before .before .before .before .before .before .before .before .before .before .before .before .before .args .least in let o = c .before .before .before .before .before .before .before .before .before .before .before .before .before .before .before .before .before .before .before .before .before .before .args .more in let R = c .before .before .before .before .before .before .before .before .before .before .before .before .before .before .before .before .before .before .before .before .before .before .pre .1 in bad-again n s (c .before .before .before .before .member2 .result) _ k _ m _ o _ _ u _ _ (c .enum-told2 .given .1) (c .before .before .before .before .member2 .ensures)
+member-returns-5 : (t : ℕ) → member-lts.Need-returns-5 (claims t) (member-at t) member.Post
+member-returns-5 t c =
+    let s = c .before .before .before .before .before .before .before .before .before .before .before .before .before .before .before .before .before .before .before .before .before .before .before .args .s .now in let n = c .before .before .before .before .before .before .before .before .before .before .before .before .before .before .before .before .before .before .before .before .before .before .before .args .n in let u = c .before .before .before .before .before .before .before .before .before .before .before .before .before .before .before .before .before .before .before .before .before .before .before .args .table .now in let k = c .before .before .before .before .before .before .before .before .before .before .before .before .before .before .before .before .before .before .before .before .before .before .before .args .c in let m = c .before .before .before .before .before .before .before .before .before .before .before .before .before .before .before .before .before .before .before .before .before .before .before .args .least in let o = c .before .before .before .before .before .before .before .before .before .before .before .before .before .before .before .before .before .before .before .before .before .before .before .args .more in let R = c .before .before .before .before .before .before .before .before .before .before .before .before .before .before .before .before .before .before .before .before .before .before .before .pre .1 in bad-again n s (c .before .before .before .before .member2 .result) _ k _ m _ o _ _ u _ _ (c .enum-told2 .given .1) (c .before .before .before .before .member2 .ensures)
 
-member-is-at-requires-3 : (t : ℕ) → member-lts.Need-is-at-requires-3 (claims t) (member-at t) member.Post
-member-is-at-requires-3 t c κs = search needs
+member-close-requires : (t : ℕ) → member-lts.Need-close-requires (claims t) (member-at t) member.Post
+member-close-requires t c κs =
+    let s = c .before .before .before .before .before .before .before .before .before .before .before .before .before .before .before .before .before .before .before .before .before .before .before .before .before .args .s .now in let n = c .before .before .before .before .before .before .before .before .before .before .before .before .before .before .before .before .before .before .before .before .before .before .before .before .before .args .n in let u = c .before .before .before .before .before .before .before .before .before .before .before .before .before .before .before .before .before .before .before .before .before .before .before .before .before .args .table .now in let k = c .before .before .before .before .before .before .before .before .before .before .before .before .before .before .before .before .before .before .before .before .before .before .before .before .before .args .c in let m = c .before .before .before .before .before .before .before .before .before .before .before .before .before .before .before .before .before .before .before .before .before .before .before .before .before .args .least in let o = c .before .before .before .before .before .before .before .before .before .before .before .before .before .before .before .before .before .before .before .before .before .before .before .before .before .args .more in let R = c .before .before .before .before .before .before .before .before .before .before .before .before .before .before .before .before .before .before .before .before .before .before .before .before .before .pre .1 in let H : here s (k .at) 40 ≡ true = sym (c .before .before .before .before .before .before .before .before .before .before .before .before .before .before .before .before .before .before .before .before .before .before .is-at .ensures) ∙ not-false _ (c .before .before .before .before .before .before .before .before .before .before .before .before .before .before .before .before .before .before .before .before .before .if1 .left) in let D : size 64 (k .used) + m + 2 ≤ n = omega (arith, c .before .before .before .before .before .before .before .before .before .before .before .before .before .before .before .before .before .before .before .if2 .left, c .before .before .before .before .before .before .before .before .before .before .before .before .before .before .before .before .before .before .before .before .size .ensures) in let L = read-is n s (c .before .before .before .before .before .before .before .before .before .before .before .before .before .before .before .before .member .result) _ (ahead k) _ (m + 1) _ true u _ (c .before .before .before .before .before .before .before .before .before .before .before .before .before .before .before .before .before .before .ahead .ensures) (c .before .before .before .before .before .before .before .before .before .before .before .before .first .given .1) (c .before .before .before .before .before .before .before .before .before .before .before .before .before .before .before .before .member .ensures) in let K : here s _ 44 ≡ true = sym (c .before .before .before .before .before .before .before .before .before .before .is-at2 .ensures) ∙ not-false _ (c .before .before .before .before .before .before .before .before .before .if3 .left) in let Q = read-is n s (c .before .before .before .before .before .before .member2 .result) _ (ahead (c .before .before .before .before .before .before .before .before .before .before .before .before .first .given .0 .0)) _ m _ o _ _ (c .before .before .before .before .before .before .before .before .ahead2 .ensures) (c .before .before .second .given .1) (c .before .before .before .before .before .before .member2 .ensures) in to-close n s u k m o R H D _ _ _ L K _ _ _ Q
 
 member-same-length-4 : (t : ℕ) → member-lts.Need-same-length-4 (claims t) (member-at t) member.Post
 member-same-length-4 t c = search needs
 
-member-returns-7 : (t : ℕ) → member-lts.Need-returns-7 (claims t) (member-at t) member.Post
-member-returns-7 t c =
-    let s = c .before .before .before .before .before .before .before .before .before .before .before .before .before .before .before .before .before .before .before .before .before .before .before .before .before .args .s .now in let n = c .before .before .before .before .before .before .before .before .before .before .before .before .before .before .before .before .before .before .before .before .before .before .before .before .before .args .n in let u = c .before .before .before .before .before .before .before .before .before .before .before .before .before .before .before .before .before .before .before .before .before .before .before .before .before .args .table .now in let k = c .before .before .before .before .before .before .before .before .before .before .before .before .before .before .before .before .before .before .before .before .before .before .before .before .before .args .c in let m = c .before .before .before .before .before .before .before .before .before .before .before .before .before .before .before .before .before .before .before .before .before .before .before .before .before .args .least in let o = c .before .before .before .before .before .before .before .before .before .before .before .before .before .before .before .before .before .before .before .before .before .before .before .before .before .args .more in let R = c .before .before .before .before .before .before .before .before .before .before .before .before .before .before .before .before .before .before .before .before .before .before .before .before .before .pre .1 in let H : here s (k .at) 40 ≡ true = sym (c .before .before .before .before .before .before .before .before .before .before .before .before .before .before .before .before .before .before .before .before .before .is-at .ensures) ∙ not-false _ (c .before .before .before .before .before .before .before .before .before .before .before .before .before .before .before .before .before .before .before .before .if2 .left) in let D : size 64 (k .used) + m + 2 ≤ n = omega (arith, c .before .before .before .before .before .before .before .before .before .before .before .before .before .before .before .before .before .before .if3 .left, c .before .before .before .before .before .before .before .before .before .before .before .before .before .before .before .before .before .before .before .size .ensures) in let L = read-is n s (c .before .before .before .before .before .before .before .before .before .before .before .before .before .before .before .before .member .result) (record { at = k .at + 1; next = k .next; used = k .used }) _ (m + 1) _ true u _ (c .before .before .before .before .before .before .before .before .before .before .before .before .first .given .1) (c .before .before .before .before .before .before .before .before .before .before .before .before .before .before .before .before .member .ensures) in let K : here s _ 44 ≡ true = sym (c .before .before .before .before .before .before .before .before .before .before .is-at2 .ensures) ∙ not-false _ (c .before .before .before .before .before .before .before .before .before .if4 .left) in let Q = read-is n s (c .before .before .before .before .before .before .before .member2 .result) _ _ m _ o _ _ (c .before .before .before .second .given .1) (c .before .before .before .before .before .before .before .member2 .ensures) in close-bad n s u k m o R H D _ _ _ L K _ _ _ Q (sym (c .before .is-at3 .ensures) ∙ not-true _ (c .if5 .taken))
-
-member-join-requires : (t : ℕ) → member-lts.Need-join-requires (claims t) (member-at t) member.Post
-member-join-requires t c κs =
-    let s = c .before .before .before .before .before .before .before .before .before .before .before .before .before .before .before .before .before .before .before .before .before .before .before .before .before .before .args .s .now in let n = c .before .before .before .before .before .before .before .before .before .before .before .before .before .before .before .before .before .before .before .before .before .before .before .before .before .before .args .n in let u = c .before .before .before .before .before .before .before .before .before .before .before .before .before .before .before .before .before .before .before .before .before .before .before .before .before .before .args .table .now in let k = c .before .before .before .before .before .before .before .before .before .before .before .before .before .before .before .before .before .before .before .before .before .before .before .before .before .before .args .c in let m = c .before .before .before .before .before .before .before .before .before .before .before .before .before .before .before .before .before .before .before .before .before .before .before .before .before .before .args .least in let o = c .before .before .before .before .before .before .before .before .before .before .before .before .before .before .before .before .before .before .before .before .before .before .before .before .before .before .args .more in let R = c .before .before .before .before .before .before .before .before .before .before .before .before .before .before .before .before .before .before .before .before .before .before .before .before .before .before .pre .1 in let H : here s (k .at) 40 ≡ true = sym (c .before .before .before .before .before .before .before .before .before .before .before .before .before .before .before .before .before .before .before .before .before .before .is-at .ensures) ∙ not-false _ (c .before .before .before .before .before .before .before .before .before .before .before .before .before .before .before .before .before .before .before .before .before .if2 .left) in let D : size 64 (k .used) + m + 2 ≤ n = omega (arith, c .before .before .before .before .before .before .before .before .before .before .before .before .before .before .before .before .before .before .before .if3 .left, c .before .before .before .before .before .before .before .before .before .before .before .before .before .before .before .before .before .before .before .before .size .ensures) in let L = read-is n s (c .before .before .before .before .before .before .before .before .before .before .before .before .before .before .before .before .before .member .result) (record { at = k .at + 1; next = k .next; used = k .used }) _ (m + 1) _ true u _ (c .before .before .before .before .before .before .before .before .before .before .before .before .before .first .given .1) (c .before .before .before .before .before .before .before .before .before .before .before .before .before .before .before .before .before .member .ensures) in let K : here s _ 44 ≡ true = sym (c .before .before .before .before .before .before .before .before .before .before .before .is-at2 .ensures) ∙ not-false _ (c .before .before .before .before .before .before .before .before .before .before .if4 .left) in let Q = read-is n s (c .before .before .before .before .before .before .before .before .member2 .result) _ _ m _ o _ _ (c .before .before .before .before .second .given .1) (c .before .before .before .before .before .before .before .before .member2 .ensures) in let a = parent-node n s u k m o R H D _ _ _ L K _ _ _ Q in let b = left-node n s u k m o R H D _ _ _ L K _ _ _ Q in let d = right-node n s u k m o R H D _ _ _ L K _ _ _ Q in let e = length-right n s u k m o R H D _ _ _ L K _ _ _ Q in let f = R .few in (omega (arith, a, b, e), omega (arith, a, b, f), omega (arith, a, f))
-
-member-join-requires-2 : (t : ℕ) → member-lts.Need-join-requires-2 (claims t) (member-at t) member.Post
-member-join-requires-2 t c κs =
-    let s = c .before .before .before .before .before .before .before .before .before .before .before .before .before .before .before .before .before .before .before .before .before .before .before .before .before .before .before .before .before .before .args .s .now in let n = c .before .before .before .before .before .before .before .before .before .before .before .before .before .before .before .before .before .before .before .before .before .before .before .before .before .before .before .before .before .before .args .n in let u = c .before .before .before .before .before .before .before .before .before .before .before .before .before .before .before .before .before .before .before .before .before .before .before .before .before .before .before .before .before .before .args .table .now in let k = c .before .before .before .before .before .before .before .before .before .before .before .before .before .before .before .before .before .before .before .before .before .before .before .before .before .before .before .before .before .before .args .c in let m = c .before .before .before .before .before .before .before .before .before .before .before .before .before .before .before .before .before .before .before .before .before .before .before .before .before .before .before .before .before .before .args .least in let o = c .before .before .before .before .before .before .before .before .before .before .before .before .before .before .before .before .before .before .before .before .before .before .before .before .before .before .before .before .before .before .args .more in let R = c .before .before .before .before .before .before .before .before .before .before .before .before .before .before .before .before .before .before .before .before .before .before .before .before .before .before .before .before .before .before .pre .1 in let H : here s (k .at) 40 ≡ true = sym (c .before .before .before .before .before .before .before .before .before .before .before .before .before .before .before .before .before .before .before .before .before .before .before .before .before .before .is-at .ensures) ∙ not-false _ (c .before .before .before .before .before .before .before .before .before .before .before .before .before .before .before .before .before .before .before .before .before .before .before .before .before .if2 .left) in let D : size 64 (k .used) + m + 2 ≤ n = omega (arith, c .before .before .before .before .before .before .before .before .before .before .before .before .before .before .before .before .before .before .before .before .before .before .before .if3 .left, c .before .before .before .before .before .before .before .before .before .before .before .before .before .before .before .before .before .before .before .before .before .before .before .before .size .ensures) in let L = read-is n s (c .before .before .before .before .before .before .before .before .before .before .before .before .before .before .before .before .before .before .before .before .before .member .result) (record { at = k .at + 1; next = k .next; used = k .used }) _ (m + 1) _ true u _ (c .before .before .before .before .before .before .before .before .before .before .before .before .before .before .before .before .before .first .given .1) (c .before .before .before .before .before .before .before .before .before .before .before .before .before .before .before .before .before .before .before .before .before .member .ensures) in let K : here s _ 44 ≡ true = sym (c .before .before .before .before .before .before .before .before .before .before .before .before .before .before .before .is-at2 .ensures) ∙ not-false _ (c .before .before .before .before .before .before .before .before .before .before .before .before .before .before .if4 .left) in let Q = read-is n s (c .before .before .before .before .before .before .before .before .before .before .before .before .member2 .result) _ _ m _ o _ _ (c .before .before .before .before .before .before .before .before .second .given .1) (c .before .before .before .before .before .before .before .before .before .before .before .before .member2 .ensures) in let a = parent-node n s u k m o R H D _ _ _ L K _ _ _ Q in let b = left-node n s u k m o R H D _ _ _ L K _ _ _ Q in let d = right-node n s u k m o R H D _ _ _ L K _ _ _ Q in let e = length-right n s u k m o R H D _ _ _ L K _ _ _ Q in let f = R .few in (second-room n s u k m o R H D _ _ _ L K _ _ _ Q _ (c .before .before .before .join .ensures), omega (arith, a, d, f), omega (arith, a, f))
-
-member-add-t23-2 : (t : ℕ) → member-lts.Need-add-t23-2 (claims t) (member-at t) member.Post
-member-add-t23-2 t c =
-    let s = c .before .before .before .before .before .before .before .before .before .before .before .before .before .before .before .before .before .before .before .before .before .before .before .before .before .before .before .before .before .before .before .before .before .args .s .now in let n = c .before .before .before .before .before .before .before .before .before .before .before .before .before .before .before .before .before .before .before .before .before .before .before .before .before .before .before .before .before .before .before .before .before .args .n in let u = c .before .before .before .before .before .before .before .before .before .before .before .before .before .before .before .before .before .before .before .before .before .before .before .before .before .before .before .before .before .before .before .before .before .args .table .now in let k = c .before .before .before .before .before .before .before .before .before .before .before .before .before .before .before .before .before .before .before .before .before .before .before .before .before .before .before .before .before .before .before .before .before .args .c in let m = c .before .before .before .before .before .before .before .before .before .before .before .before .before .before .before .before .before .before .before .before .before .before .before .before .before .before .before .before .before .before .before .before .before .args .least in let o = c .before .before .before .before .before .before .before .before .before .before .before .before .before .before .before .before .before .before .before .before .before .before .before .before .before .before .before .before .before .before .before .before .before .args .more in let R = c .before .before .before .before .before .before .before .before .before .before .before .before .before .before .before .before .before .before .before .before .before .before .before .before .before .before .before .before .before .before .before .before .before .pre .1 in let E : here s _ 41 ≡ true = sym (c .before .before .before .before .before .before .before .before .before .is-at3 .ensures) ∙ not-false _ (c .before .before .before .before .before .before .before .before .if5 .left) in let i = here-in s _ 41 E in let b = c .before .before .before .before .before .before .before .before .before .before .before .before .before .before .before .before .before .before .before .before .before .before .before .before .before .before .before .before .before .before .before .before .before .good .0 in search needs
-
-member-add-t24 : (t : ℕ) → member-lts.Need-add-t24 (claims t) (member-at t) member.Post
-member-add-t24 t c =
-    let s = c .before .before .before .before .before .before .before .before .before .before .before .before .before .before .before .before .before .before .before .before .before .before .before .before .before .before .before .before .before .before .before .before .before .args .s .now in let n = c .before .before .before .before .before .before .before .before .before .before .before .before .before .before .before .before .before .before .before .before .before .before .before .before .before .before .before .before .before .before .before .before .before .args .n in let u = c .before .before .before .before .before .before .before .before .before .before .before .before .before .before .before .before .before .before .before .before .before .before .before .before .before .before .before .before .before .before .before .before .before .args .table .now in let k = c .before .before .before .before .before .before .before .before .before .before .before .before .before .before .before .before .before .before .before .before .before .before .before .before .before .before .before .before .before .before .before .before .before .args .c in let m = c .before .before .before .before .before .before .before .before .before .before .before .before .before .before .before .before .before .before .before .before .before .before .before .before .before .before .before .before .before .before .before .before .before .args .least in let o = c .before .before .before .before .before .before .before .before .before .before .before .before .before .before .before .before .before .before .before .before .before .before .before .before .before .before .before .before .before .before .before .before .before .args .more in let R = c .before .before .before .before .before .before .before .before .before .before .before .before .before .before .before .before .before .before .before .before .before .before .before .before .before .before .before .before .before .before .before .before .before .pre .1 in let H : here s (k .at) 40 ≡ true = sym (c .before .before .before .before .before .before .before .before .before .before .before .before .before .before .before .before .before .before .before .before .before .before .before .before .before .before .before .before .before .is-at .ensures) ∙ not-false _ (c .before .before .before .before .before .before .before .before .before .before .before .before .before .before .before .before .before .before .before .before .before .before .before .before .before .before .before .before .if2 .left) in let D : size 64 (k .used) + m + 2 ≤ n = omega (arith, c .before .before .before .before .before .before .before .before .before .before .before .before .before .before .before .before .before .before .before .before .before .before .before .before .before .before .if3 .left, c .before .before .before .before .before .before .before .before .before .before .before .before .before .before .before .before .before .before .before .before .before .before .before .before .before .before .before .size .ensures) in let L = read-is n s (c .before .before .before .before .before .before .before .before .before .before .before .before .before .before .before .before .before .before .before .before .before .before .before .before .member .result) (record { at = k .at + 1; next = k .next; used = k .used }) _ (m + 1) _ true u _ (c .before .before .before .before .before .before .before .before .before .before .before .before .before .before .before .before .before .before .before .before .first .given .1) (c .before .before .before .before .before .before .before .before .before .before .before .before .before .before .before .before .before .before .before .before .before .before .before .before .member .ensures) in let K : here s _ 44 ≡ true = sym (c .before .before .before .before .before .before .before .before .before .before .before .before .before .before .before .before .before .before .is-at2 .ensures) ∙ not-false _ (c .before .before .before .before .before .before .before .before .before .before .before .before .before .before .before .before .before .if4 .left) in let Q = read-is n s (c .before .before .before .before .before .before .before .before .before .before .before .before .before .before .before .member2 .result) _ _ m _ o _ _ (c .before .before .before .before .before .before .before .before .before .before .before .second .given .1) (c .before .before .before .before .before .before .before .before .before .before .before .before .before .before .before .member2 .ensures) in let a = parent-node n s u k m o R H D _ _ _ L K _ _ _ Q in let b = left-node n s u k m o R H D _ _ _ L K _ _ _ Q in let d = right-node n s u k m o R H D _ _ _ L K _ _ _ Q in let e = length-right n s u k m o R H D _ _ _ L K _ _ _ Q in let f = R .few in search needs
-
-member-same-length-5 : (t : ℕ) → member-lts.Need-same-length-5 (claims t) (member-at t) member.Post
-member-same-length-5 t c = search needs
-
-member-returns-8 : (t : ℕ) → member-lts.Need-returns-8 (claims t) (member-at t) member.Post
-member-returns-8 t c =
-    let s = c .before .before .before .before .before .before .before .before .before .before .before .before .before .before .before .before .before .before .before .before .before .before .before .before .before .before .before .before .before .before .before .before .before .args .s .now in let n = c .before .before .before .before .before .before .before .before .before .before .before .before .before .before .before .before .before .before .before .before .before .before .before .before .before .before .before .before .before .before .before .before .before .args .n in let u = c .before .before .before .before .before .before .before .before .before .before .before .before .before .before .before .before .before .before .before .before .before .before .before .before .before .before .before .before .before .before .before .before .before .args .table .now in let k = c .before .before .before .before .before .before .before .before .before .before .before .before .before .before .before .before .before .before .before .before .before .before .before .before .before .before .before .before .before .before .before .before .before .args .c in let m = c .before .before .before .before .before .before .before .before .before .before .before .before .before .before .before .before .before .before .before .before .before .before .before .before .before .before .before .before .before .before .before .before .before .args .least in let o = c .before .before .before .before .before .before .before .before .before .before .before .before .before .before .before .before .before .before .before .before .before .before .before .before .before .before .before .before .before .before .before .before .before .args .more in let R = c .before .before .before .before .before .before .before .before .before .before .before .before .before .before .before .before .before .before .before .before .before .before .before .before .before .before .before .before .before .before .before .before .before .pre .1 in let H : here s (k .at) 40 ≡ true = sym (c .before .before .before .before .before .before .before .before .before .before .before .before .before .before .before .before .before .before .before .before .before .before .before .before .before .before .before .before .before .is-at .ensures) ∙ not-false _ (c .before .before .before .before .before .before .before .before .before .before .before .before .before .before .before .before .before .before .before .before .before .before .before .before .before .before .before .before .if2 .left) in let D : size 64 (k .used) + m + 2 ≤ n = omega (arith, c .before .before .before .before .before .before .before .before .before .before .before .before .before .before .before .before .before .before .before .before .before .before .before .before .before .before .if3 .left, c .before .before .before .before .before .before .before .before .before .before .before .before .before .before .before .before .before .before .before .before .before .before .before .before .before .before .before .size .ensures) in let L = read-is n s (c .before .before .before .before .before .before .before .before .before .before .before .before .before .before .before .before .before .before .before .before .before .before .before .before .member .result) (record { at = k .at + 1; next = k .next; used = k .used }) _ (m + 1) _ true u _ (c .before .before .before .before .before .before .before .before .before .before .before .before .before .before .before .before .before .before .before .before .first .given .1) (c .before .before .before .before .before .before .before .before .before .before .before .before .before .before .before .before .before .before .before .before .before .before .before .before .member .ensures) in let K : here s _ 44 ≡ true = sym (c .before .before .before .before .before .before .before .before .before .before .before .before .before .before .before .before .before .before .is-at2 .ensures) ∙ not-false _ (c .before .before .before .before .before .before .before .before .before .before .before .before .before .before .before .before .before .if4 .left) in let Q = read-is n s (c .before .before .before .before .before .before .before .before .before .before .before .before .before .before .before .member2 .result) _ _ m _ o _ _ (c .before .before .before .before .before .before .before .before .before .before .before .second .given .1) (c .before .before .before .before .before .before .before .before .before .before .before .before .before .before .before .member2 .ensures) in let E : here s _ 41 ≡ true = sym (c .before .before .before .before .before .before .before .before .before .is-at3 .ensures) ∙ not-false _ (c .before .before .before .before .before .before .before .before .if5 .left) in subst (λ w. Read n s k m o u w (record { at = c .before .before .before .before .before .before .before .before .before .before .before .second .given .0 .0 .at + 1; next = c .before .before .before .before .before .before .before .before .before .before .before .second .given .0 .0 .next + 1; used = c .before .before .before .before .before .before .before .before .before .before .before .second .given .0 .0 .used }) (c .before .before .before .before .before .before .before .before .before .before .before .second .given .0 .0 .next)) (sym (c .before .before .join2 .ensures ∙ ap (join (c .before .before .before .before .before .before .before .before .before .before .before .second .given .0 .1 .0) (c .before .before .before .before .before .before .before .before .before .before .before .second .given .0 .0 .next)) (c .before .before .before .before .before .before .join .ensures))) (read-group n s u k m o R H D _ _ _ L K _ _ _ Q E)
+member-returns-6 : (t : ℕ) → member-lts.Need-returns-6 (claims t) (member-at t) member.Post
+member-returns-6 t c =
+    let s = c .before .before .before .before .before .before .before .before .before .before .before .before .before .before .before .before .before .before .before .before .before .before .before .before .before .before .before .before .args .s .now in let n = c .before .before .before .before .before .before .before .before .before .before .before .before .before .before .before .before .before .before .before .before .before .before .before .before .before .before .before .before .args .n in let u = c .before .before .before .before .before .before .before .before .before .before .before .before .before .before .before .before .before .before .before .before .before .before .before .before .before .before .before .before .args .table .now in let k = c .before .before .before .before .before .before .before .before .before .before .before .before .before .before .before .before .before .before .before .before .before .before .before .before .before .before .before .before .args .c in let m = c .before .before .before .before .before .before .before .before .before .before .before .before .before .before .before .before .before .before .before .before .before .before .before .before .before .before .before .before .args .least in let o = c .before .before .before .before .before .before .before .before .before .before .before .before .before .before .before .before .before .before .before .before .before .before .before .before .before .before .before .before .args .more in let R = c .before .before .before .before .before .before .before .before .before .before .before .before .before .before .before .before .before .before .before .before .before .before .before .before .before .before .before .before .pre .1 in let H : here s (k .at) 40 ≡ true = sym (c .before .before .before .before .before .before .before .before .before .before .before .before .before .before .before .before .before .before .before .before .before .before .before .before .before .is-at .ensures) ∙ not-false _ (c .before .before .before .before .before .before .before .before .before .before .before .before .before .before .before .before .before .before .before .before .before .before .before .before .if1 .left) in let D : size 64 (k .used) + m + 2 ≤ n = omega (arith, c .before .before .before .before .before .before .before .before .before .before .before .before .before .before .before .before .before .before .before .before .before .before .if2 .left, c .before .before .before .before .before .before .before .before .before .before .before .before .before .before .before .before .before .before .before .before .before .before .before .size .ensures) in let L = read-is n s (c .before .before .before .before .before .before .before .before .before .before .before .before .before .before .before .before .before .before .before .member .result) _ (ahead k) _ (m + 1) _ true u _ (c .before .before .before .before .before .before .before .before .before .before .before .before .before .before .before .before .before .before .before .before .before .ahead .ensures) (c .before .before .before .before .before .before .before .before .before .before .before .before .before .before .before .first .given .1) (c .before .before .before .before .before .before .before .before .before .before .before .before .before .before .before .before .before .before .before .member .ensures) in let K : here s _ 44 ≡ true = sym (c .before .before .before .before .before .before .before .before .before .before .before .before .before .is-at2 .ensures) ∙ not-false _ (c .before .before .before .before .before .before .before .before .before .before .before .before .if3 .left) in let Q = read-is n s (c .before .before .before .before .before .before .before .before .before .member2 .result) _ (ahead (c .before .before .before .before .before .before .before .before .before .before .before .before .before .before .before .first .given .0 .0)) _ m _ o _ _ (c .before .before .before .before .before .before .before .before .before .before .before .ahead2 .ensures) (c .before .before .before .before .before .second .given .1) (c .before .before .before .before .before .before .before .before .before .member2 .ensures) in got-group n s u k m o R H D _ _ _ L K _ _ _ Q _ (c .before .before .close .result) (c .before .before .close .ensures)
 
 pub +member-spec : {M : Type 1} → statement M
 +member-spec = close μ-member λ t. member-lts.spec (claims t)
     (member-at t)
     member.Post
-    (member-returns t)
     (member-is-at-requires t)
     (member-taxon-at-requires t)
-    (member-returns-2 t)
+    (member-returns t)
     (member-size-requires t)
-    (member-add-if3 t)
-    (member-add-if3-2 t)
-    (member-returns-3 t)
-    (member-add-t19 t)
+    (member-add-if2 t)
+    (member-add-if2-2 t)
+    (member-returns-2 t)
+    (member-ahead-requires t)
     (member-add-member t)
     (member-member-requires t)
     (member-enum-known-first t)
     (member-enum-told t)
     (member-same-length t)
-    (member-returns-4 t)
+    (member-returns-3 t)
     (member-is-at-requires-2 t)
     (member-same-length-2 t)
-    (member-returns-5 t)
-    (member-add-t23 t)
+    (member-returns-4 t)
+    (member-ahead-requires-2 t)
     (member-member-requires-2 t)
     (member-enum-known-second t)
     (member-enum-told-2 t)
     (member-same-length-3 t)
-    (member-returns-6 t)
-    (member-is-at-requires-3 t)
+    (member-returns-5 t)
+    (member-close-requires t)
     (member-same-length-4 t)
-    (member-returns-7 t)
-    (member-join-requires t)
-    (member-join-requires-2 t)
-    (member-add-t23-2 t)
-    (member-add-t24 t)
-    (member-same-length-5 t)
-    (member-returns-8 t)
+    (member-returns-6 t)

@@ -1,10 +1,11 @@
 -- `reader::after_one` meets its contract. Assumes nothing.
 use mathlib.Core.Path.{_≡_, sym, _∙_}
 use mathlib.Core.Bool.{true}
-use Prim.Native.Nat.{_+_}
 use borrow.Author.Tests.{not-true, not-false}
 use Rattle.reader.specs.Slots.{here}
-use Rattle.reader.proofs.StageLaws.{bad-is, read-is}
+use Rattle.reader.proofs.Places.{here-in}
+use Rattle.reader.proofs.StageLaws.{bad-is, read-is, ready-at}
+use Rattle.reader.specs.Stages.{ahead}
 use Rattle.reader.proofs.WholeLaws.{no-second, second-ready, two-read}
 use borrow.Author.Needs.{needs}
 use Rattle.reader.proofs.after_one.Statement.{statement}
@@ -17,12 +18,13 @@ returns : tie.Need-returns
 returns c =
     let s = c .before .before .before .before .args .s .now in let n = c .before .before .before .before .args .n in let u = c .before .before .before .before .args .table .now in let k = c .before .before .before .before .args .c in let x = c .before .before .before .before .args .x in let O = c .before .before .before .before .pre in no-second n s u k x O (sym (c .before .is-at .ensures) ∙ not-true _ (c .if1 .taken))
 
-add-t13 : tie.Need-add-t13
-add-t13 c = search needs
+ahead-requires : tie.Need-ahead-requires
+ahead-requires c κs =
+    let s = c .before .before .before .before .args .s .now in let n = c .before .before .before .before .args .n in let u = c .before .before .before .before .args .table .now in let k = c .before .before .before .before .args .c in let x = c .before .before .before .before .args .x in let K : here s _ 44 ≡ true = sym (c .before .is-at .ensures) ∙ not-false _ (c .if1 .left) in let i = here-in s _ 44 K in let b = c .before .before .before .before .good .0 in search needs
 
 member-requires : tie.Need-member-requires
 member-requires c κs =
-    let s = c .before .before .before .before .before .args .s .now in let n = c .before .before .before .before .before .args .n in let u = c .before .before .before .before .before .args .table .now in let k = c .before .before .before .before .before .args .c in let x = c .before .before .before .before .before .args .x in let O = c .before .before .before .before .before .pre in let K : here s _ 44 ≡ true = sym (c .before .before .is-at .ensures) ∙ not-false _ (c .before .if1 .left) in second-ready n s u k x O K
+    let s = c .before .before .before .before .before .before .args .s .now in let n = c .before .before .before .before .before .before .args .n in let u = c .before .before .before .before .before .before .args .table .now in let k = c .before .before .before .before .before .before .args .c in let x = c .before .before .before .before .before .before .args .x in let O = c .before .before .before .before .before .before .pre in let K : here s _ 44 ≡ true = sym (c .before .before .before .is-at .ensures) ∙ not-false _ (c .before .before .if1 .left) in ready-at n s u _ (ahead k) 0 true (c .before .ahead .ensures) (second-ready n s u k x O K)
 
 enum-known-p : tie.Need-enum-known-p
 enum-known-p c = search needs
@@ -32,14 +34,14 @@ enum-known-d c = search needs
 
 after-two-requires : tie.Need-after-two-requires
 after-two-requires c κs =
-    let s = c .before .before .before .before .before .before .before .before .before .before .before .before .args .s .now in let n = c .before .before .before .before .before .before .before .before .before .before .before .before .args .n in let u = c .before .before .before .before .before .before .before .before .before .before .before .before .args .table .now in let k = c .before .before .before .before .before .before .before .before .before .before .before .before .args .c in let x = c .before .before .before .before .before .before .before .before .before .before .before .before .args .x in let O = c .before .before .before .before .before .before .before .before .before .before .before .before .pre in let K : here s _ 44 ≡ true = sym (c .before .before .before .before .before .before .before .before .before .is-at .ensures) ∙ not-false _ (c .before .before .before .before .before .before .before .before .if1 .left) in let Q = read-is n s (c .before .before .before .before .before .before .member .result) (record { at = k .at + 1; next = k .next; used = k .used }) _ 0 _ true u _ (c .before .before .d .given .1) (c .before .before .before .before .before .before .member .ensures) in two-read n s u k x O K _ _ _ Q
+    let s = c .before .before .before .before .before .before .before .before .before .before .before .before .before .args .s .now in let n = c .before .before .before .before .before .before .before .before .before .before .before .before .before .args .n in let u = c .before .before .before .before .before .before .before .before .before .before .before .before .before .args .table .now in let k = c .before .before .before .before .before .before .before .before .before .before .before .before .before .args .c in let x = c .before .before .before .before .before .before .before .before .before .before .before .before .before .args .x in let O = c .before .before .before .before .before .before .before .before .before .before .before .before .before .pre in let K : here s _ 44 ≡ true = sym (c .before .before .before .before .before .before .before .before .before .before .is-at .ensures) ∙ not-false _ (c .before .before .before .before .before .before .before .before .before .if1 .left) in let Q = read-is n s (c .before .before .before .before .before .before .member .result) _ (ahead k) _ 0 _ true u _ (c .before .before .before .before .before .before .before .before .ahead .ensures) (c .before .before .d .given .1) (c .before .before .before .before .before .before .member .ensures) in two-read n s u k x O K _ _ _ Q
 
 same-length : tie.Need-same-length
 same-length c = search needs
 
 returns-2 : tie.Need-returns-2
 returns-2 c =
-    let s = c .before .before .before .before .before .before .before .before .before .before .before .args .s .now in let n = c .before .before .before .before .before .before .before .before .before .before .before .args .n in let u = c .before .before .before .before .before .before .before .before .before .before .before .args .table .now in let k = c .before .before .before .before .before .before .before .before .before .before .before .args .c in let x = c .before .before .before .before .before .before .before .before .before .before .before .args .x in bad-is n s (c .before .before .before .before .before .member .result) (record { at = k .at + 1; next = k .next; used = k .used }) 0 true u _ _ (c .before .p .given .1) (c .before .before .before .before .before .member .ensures)
+    let s = c .before .before .before .before .before .before .before .before .before .before .before .before .args .s .now in let n = c .before .before .before .before .before .before .before .before .before .before .before .before .args .n in let u = c .before .before .before .before .before .before .before .before .before .before .before .before .args .table .now in let k = c .before .before .before .before .before .before .before .before .before .before .before .before .args .c in let x = c .before .before .before .before .before .before .before .before .before .before .before .before .args .x in bad-is n s (c .before .before .before .before .before .member .result) _ 0 true u _ _ (c .before .p .given .1) (c .before .before .before .before .before .member .ensures)
 
 same-length-2 : tie.Need-same-length-2
 same-length-2 c = search needs
@@ -54,7 +56,7 @@ after-one-spec =
     (tie.spec
     is-at-requires
     returns
-    add-t13
+    ahead-requires
     member-requires
     enum-known-p
     enum-known-d

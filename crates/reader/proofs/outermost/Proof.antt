@@ -1,5 +1,8 @@
 -- `reader::outermost` meets its contract. Assumes nothing.
-use mathlib.Core.Path.{_≡_, sym, _∙_}
+use mathlib.Core.Path.{_≡_, refl, sym, _∙_}
+use mathlib.Core.Bool.{true}
+-- `reader::outermost` meets its contract. Assumes nothing.
+use mathlib.Core.Path.{_≡_, refl, sym, _∙_}
 use mathlib.Core.Bool.{true}
 use borrow.Author.Tests.{not-true, not-false}
 use Rattle.reader.specs.Slots.{here}
@@ -29,7 +32,7 @@ enum-known-c c = search needs
 
 after-one-requires : tie.Need-after-one-requires
 after-one-requires c κs =
-    let s = c .before .before .before .before .before .before .before .before .before .before .before .before .args .s .now in let n = c .before .before .before .before .before .before .before .before .before .before .before .before .args .n in let u = c .before .before .before .before .before .before .before .before .before .before .before .before .args .table .now in let H : here s 0 40 ≡ true = sym (c .before .before .before .before .before .before .before .before .before .is-at .ensures) ∙ not-false _ (c .before .before .before .before .before .before .before .before .if1 .left) in let Q = read-is n s (c .before .before .before .before .before .before .member .result) (record { at = 1; next = n; used = 0 }) _ 1 _ true u _ (c .before .before .c .given .1) (c .before .before .before .before .before .before .member .ensures) in one-read n s (c .before .before .before .before .before .before .before .before .before .before .before .before .pre .0) (c .before .before .before .before .before .before .before .before .before .before .before .before .pre .1) H u (c .before .before .before .before .before .before .before .before .before .before .before .before .pre .2) _ _ _ Q
+    let s = c .before .before .before .before .before .before .before .before .before .before .before .before .args .s .now in let n = c .before .before .before .before .before .before .before .before .before .before .before .before .args .n in let u = c .before .before .before .before .before .before .before .before .before .before .before .before .args .table .now in let H : here s 0 40 ≡ true = sym (c .before .before .before .before .before .before .before .before .before .is-at .ensures) ∙ not-false _ (c .before .before .before .before .before .before .before .before .if1 .left) in let Q = read-is n s (c .before .before .before .before .before .before .member .result) (record { at = 1; next = n; used = 0 }) (record { at = 1; next = n; used = 0 }) _ 1 _ true u _ refl (c .before .before .c .given .1) (c .before .before .before .before .before .before .member .ensures) in one-read n s (c .before .before .before .before .before .before .before .before .before .before .before .before .pre .0) (c .before .before .before .before .before .before .before .before .before .before .before .before .pre .1) H u (c .before .before .before .before .before .before .before .before .before .before .before .before .pre .2) _ _ _ Q
 
 same-length : tie.Need-same-length
 same-length c = search needs

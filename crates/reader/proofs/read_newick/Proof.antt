@@ -2,7 +2,8 @@
 use mathlib.Core.Path.{sym, ap, _∙_}
 use native.Mathlib.Omega.{arith}
 use lib.ListN.{length}
-use Rattle.reader.proofs.PlantLaws.{wrong-count, zeros-blank, blank-long}
+use Rattle.grammar.proofs.Writes.{blank-length}
+use Rattle.reader.proofs.PlantLaws.{wrong-count, zeros-blank}
 use borrow.Author.Needs.{needs}
 use Rattle.reader.proofs.read_newick.Statement.{statement}
 use Rattle.reader.proofs.read_newick.Tie as tie
@@ -29,7 +30,7 @@ array-borrow-prefix-table c = search needs
 
 slice-aggregate-plant : tie.Need-slice-aggregate-plant
 slice-aggregate-plant c =
-    sym (ap length (zeros-blank (c .before .before .before .before .before .args .n) (c .before .if2 .left)) ∙ blank-long (c .before .before .before .before .before .args .n))
+    sym (ap length (zeros-blank (c .before .before .before .before .before .args .n) (c .before .if2 .left)) ∙ blank-length (c .before .before .before .before .before .args .n))
 
 plant-requires : tie.Need-plant-requires
 plant-requires c κs =
