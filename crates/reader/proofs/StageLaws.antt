@@ -9,7 +9,7 @@ use native.Mathlib.Omega.{arith}
 use lib.Dec.{ltb}
 use lib.ListN.{length, take, getD, length-append}
 use lib.Seq.{take-all}
-use borrow.Author.Tests.{lt-ltb, ltb-true, ltb-false, eq-eqb, ne-eqb}
+use borrow.Author.Tests.{lt-ltb, le-ltb, ltb-true, ltb-false, eq-eqb, ne-eqb}
 use Rattle.taxa.specs.Most.{most}
 use Rattle.taxa.specs.Sets.{has, less, full, size}
 use Rattle.tree.specs.Tree.{rows}
@@ -18,7 +18,7 @@ use Rattle.labels.specs.Labels.{Found, Missed, LabelIs}
 use Rattle.labels.specs.declared.Label.{Label}
 use Rattle.labels.specs.declared.Label.the-variants as label
 use Rattle.grammar.specs.Newick.{taxon, group, NoTree}
-use Rattle.grammar.specs.Numbers.{groups, node, join, withRows}
+use Rattle.grammar.specs.Numbers.{groups, node, join, withRows, smaller, larger}
 use Rattle.grammar.proofs.Writes.{length-join}
 use Rattle.grammar.proofs.Valid.{node-lt, length-rows}
 use Rattle.reader.specs.declared.Cursor.{Cursor}
@@ -37,6 +37,20 @@ module _ (s t : List ℕ) (c : Cursor) (x y : ℕ) (C : Closes s t c x y) where
 
   pub row-second : (u : List ℕ) → u ≡ join x (c .next) t → (2 * y + 1 < length u) × (y < 256) × (c .next < 256)
   row-second u e = (omega (arith, C .second, ap length e ∙ length-join t x (c .next)), C .small .1, C .small .2)
+
+-- ---- the row between two nodes, by the order of their numbers
+module _ (t : List ℕ) (x y : ℕ) where
+  pub row-below : x < y → 2 * smaller x y + 1 < length t → 2 * x + 1 < length t
+  row-below l h = rw (lt-ltb x y l) at h
+
+  pub row-above : y ≤ x → 2 * smaller x y + 1 < length t → 2 * y + 1 < length t
+  row-above l h = rw (le-ltb x y l) at h
+
+  pub joined-below : x < y → (u : List ℕ) → u ≡ join x y t → u ≡ join (smaller x y) (larger x y) t
+  joined-below l u e = rw (lt-ltb x y l) e
+
+  pub joined-above : y ≤ x → (u : List ℕ) → u ≡ join y x t → u ≡ join (smaller x y) (larger x y) t
+  joined-above l u e = rw (le-ltb x y l) e
 
 -- ---- the taxa that may stand alone
 module _ (n u : ℕ) (few : n ≤ most) (w : Within n u) where
