@@ -31,7 +31,8 @@ enum {
     JUDGE_ONE,
     LIST_MOVE,
     START,
-    STEP
+    STEP,
+    READ_NEWICK
 };
 
 /* The places of the numbers and pieces of a description. */
@@ -105,6 +106,17 @@ static void call_step(const struct description *call, uint8_t **memory,
     put_state(answer + 4, given.next);
 }
 
+/* Reads the Newick text that is the first piece. */
+static void call_read_newick(const struct description *call, uint8_t **memory,
+                             uint64_t *answer)
+{
+    tusvlane_placed given = tusvlane_read_newick(
+        call->number[TAXA], memory[FIRST], call->length[FIRST], memory[OUT],
+        call->length[OUT]);
+    answer[0] = given.refusal;
+    answer[1] = given.place;
+}
+
 /* Makes the described call on the given memory. */
 static void make_call(const struct description *call, uint8_t **memory,
                       uint64_t *answer)
@@ -152,6 +164,9 @@ static void make_call(const struct description *call, uint8_t **memory,
         break;
     case STEP:
         call_step(call, memory, answer);
+        break;
+    case READ_NEWICK:
+        call_read_newick(call, memory, answer);
         break;
     default:
         fail("no such function");

@@ -5,10 +5,13 @@ A call is described as calls.c reads it: a function, eight numbers, four pieces 
 
 import jobs
 import making
+import newick
 import tusvlane
 
 FUNCTIONS = ["check_tree", "induced_splits", "compare", "apply_move", "judge_move", "judge_one",
              "list_move", "start", "step"]
+# compare-newick makes the calls of the last one, compare-calls all the others.
+NUMBERED = FUNCTIONS + ["read_newick"]
 LARGEST = 2 ** 64 - 1
 HUGE = [2 ** 31, 2 ** 32, 2 ** 32 + 6, 2 ** 63 - 1, 2 ** 63, LARGEST - 1, LARGEST]
 
@@ -42,7 +45,7 @@ class Call:
     def described(self):
         """The description as bytes."""
         pieces = self.pieces()
-        head = [FUNCTIONS.index(self.function) + 1] + self.numbers()
+        head = [NUMBERED.index(self.function) + 1] + self.numbers()
         return packed(head + [len(piece) for piece in pieces]) + b"".join(pieces)
 
 
@@ -136,6 +139,16 @@ def expect_step(call, expected):
     expected.write(OUT, 0, lines)
 
 
+def expect_read_newick(call, expected):
+    """The table at the start of the output, or a refusal and its place."""
+    answer = newick.read(call.n, call.first, len(call.out))
+    if answer[0] == "table":
+        expected.write(OUT, 0, answer[1])
+    else:
+        numbers = answer[1:]
+        expected.numbers[:len(numbers)] = numbers
+
+
 EXPECT = {
     "check_tree": expect_check_tree,
     "induced_splits": expect_induced_splits,
@@ -146,6 +159,7 @@ EXPECT = {
     "list_move": expect_list_move,
     "start": expect_start,
     "step": expect_step,
+    "read_newick": expect_read_newick,
 }
 
 

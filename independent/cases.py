@@ -3,6 +3,7 @@
 import random
 
 import making
+import newick
 import tusvlane
 
 TREE_S = bytes.fromhex("0006 0106 0607 0207 0708 0308 0809 0409 0509")
@@ -28,6 +29,19 @@ AFTER = [
     ((3, 4, 0, 7), {0: (0, 7), 2: (2, 6), 3: (6, 7), 5: (3, 9), 6: (8, 9), 7: (4, 8)}),
 ]
 REFUSED_MOVES = [((2, 0, 1, 0), 10), ((2, 0, 0, 0), 9), ((2, 0, 9, 0), 8), ((3, 0, 1, 3), 9)]
+
+# For a number of taxa and a text that is no tree, the place.
+NEWICK_PLACES = [
+    (4, b"", 0), (4, b"(0,1,2", 5), (4, b"((((", 3), (4, b" (", 0),
+    (11, b"(1,1", 4), (11, b"(1,1,", 4), (4, b"(01", 2), (4, b"(0,01", 3),
+    (4, b"((0,1),(2,3))", 13), (4, b"((0,1),(2,3));\n", 14),
+    (4, b"((0,1),2:1,3);", 8), (4, b"((0,1)4,2,3);", 6), (4, b"((0,1,2", 5),
+    (4, b"(0,1);", 4), (5, b"((0,1),(2,3));", 12), (4, b"((0,4", 4),
+]
+# One tree of 4 taxa in several texts: the table is the same for all of them.
+NEWICK_TABLE = bytes.fromhex("0004 0104 0205 0305 0405")
+NEWICK_TEXTS = [b"((0,1),(2,3));", b"((0,1),2,3);", b"(3,(1,0),2);",
+                b"(3,((1,0),2));"]
 
 
 def number_of(function, *arguments):
@@ -75,6 +89,18 @@ def check_sides():
         size = bin(partition).count("1")
         members = 2 * size - 3 if size >= 3 else int(size == 2)
         assert len(tusvlane.split_set(n, table, partition)) == members
+
+
+def check_newick():
+    """What the document says of single texts, and the order of refusals."""
+    for n, text, place in NEWICK_PLACES:
+        assert newick.read(n, text, 0) == ("refused", 14, place)
+        assert newick.read(n, text, 250) == ("refused", 14, place)
+    for text in NEWICK_TEXTS:
+        assert newick.read(4, text, 9) == ("refused", 11)
+        assert newick.read(4, text, 10) == ("table", NEWICK_TABLE)
+    for n in (0, 3, 65):
+        assert newick.read(n, b"", 0) == ("refused", 1)
 
 
 def check():

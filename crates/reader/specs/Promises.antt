@@ -27,8 +27,10 @@ Right n = (4 ≤ n) × (n ≤ most)
 -- the table of the tree.
 pub data Reads (n : ℕ) (s : List ℕ) (room : ℕ) (h : Heard (List ℕ)) : Type 0 where
   of-count : (Right n → ⊥) → h ≡ refuses 1 → Reads n s room h
-  of-text : Right n → (p : ℕ) → NoTree n s p → h ≡ refusesAt 14 p → Reads n s room h
-  of-room : Right n → IsTree n s → room < 2 * rows n → h ≡ refuses 11 → Reads n s room h
+  of-text : Right n → (p : ℕ) → NoTree n s p → h ≡ refusesAt 14 p
+      → Reads n s room h
+  of-room : Right n → IsTree n s → room < 2 * rows n → h ≡ refuses 11
+      → Reads n s room h
   of-tree : Right n → (o : Outermost) → Stands n s o → 2 * rows n ≤ room
       → h ≡ gives (table n o) → Reads n s room h
 

@@ -59,7 +59,8 @@ pub record Slot (n : ℕ) (s : List ℕ) (at u m : ℕ) (o : Bool) : Type 0 wher
   pub room : size n u + m < n
   pub last : o ≡ false → m ≡ 0
   pub settles : (x : List ℕ) → IsTree n (take at s ++ x) → Onward n u m o x
-  pub fills : (t : Member) → Fits n u m o t → (w : List ℕ) × IsTree n (take at s ++ text t w)
+  pub fills : (t : Member) → Fits n u m o t
+      → (w : List ℕ) × IsTree n (take at s ++ text t w)
 
 -- the byte b stands at a place
 abbrev pub here : List ℕ → ℕ → ℕ → Bool
