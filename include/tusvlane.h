@@ -10,12 +10,13 @@
  *   call. `restrict` says so below.
  * - Each ends, and gives its answer or a refusal. `refusal` is 0 when the call
  *   is accepted. Otherwise it is one of the numbers below, and every other
- *   number of the answer is 0, but for the place of tusvlane_step.
+ *   number of the answer is 0, but for the place of tusvlane_step and that of
+ *   tusvlane_read_newick with 14.
  * - A refused call leaves every lent byte as it was. An accepted one writes
  *   what its description says and nothing else.
  * - Checks run in the order of the refusal numbers 1 to 11. Of two trees the
- *   first is checked wholly, then the second. tusvlane_step tells its own
- *   order.
+ *   first is checked wholly, then the second. tusvlane_read_newick and
+ *   tusvlane_step tell their own order.
  * - No function keeps memory, calls for any, or has a state of its own, so
  *   that any number of threads may call.
  */
@@ -62,7 +63,9 @@ enum {
      * cut short. */
     TUSVLANE_FIELD = 12,
     /* A job is longer than 65,535 bytes. */
-    TUSVLANE_LONG = 13
+    TUSVLANE_LONG = 13,
+    /* A text is no tree of n taxa. */
+    TUSVLANE_TEXT = 14
 };
 
 /* A tree of n taxa is a table of 2n-3 rows, two bytes a row: the two end nodes
@@ -93,6 +96,12 @@ typedef struct {
     uint64_t distance;
     uint64_t missing;
 } tusvlane_comparison;
+
+/* A refusal or 0; and with 14 its place in the text, otherwise 0. */
+typedef struct {
+    uint64_t refusal;
+    size_t place;
+} tusvlane_placed;
 
 /* How far a job was read: the offset of the next field, the number of taxa,
  * how many partitions and how many moves were read. */
@@ -176,6 +185,32 @@ tusvlane_answer tusvlane_list_move(size_t n, uint8_t *TUSVLANE_LENT table,
                                    tusvlane_move move, uint64_t number,
                                    uint8_t *TUSVLANE_LENT out,
                                    size_t out_bytes, size_t place);
+
+/* Reads a tree of n taxa from its Newick text, and writes its table to the
+ * start of `out`, which needs 2(2n-3) bytes. The rest of `out` stays.
+ *
+ * The text is one group and a semicolon, with no byte after it. A group is an
+ * opening parenthesis, its members with commas between them, and a closing
+ * parenthesis. A member is a taxon or another group. A taxon is its number in
+ * plain decimal without leading zeros, and each of 0 to n-1 stands once. Every
+ * group has two members, but the outermost has two or three. There are no
+ * blanks, lengths or labels of groups.
+ *
+ * Inner nodes are numbered from n in the order of their closing parentheses,
+ * and row v joins node v to its parent. With two outermost members, the
+ * outermost group is no node: one row joins its members, and takes the smaller
+ * of their numbers.
+ *
+ * Refusals in this order; where it is refused, nothing is written:
+ * - 1;
+ * - 14 when the text is no such tree. `place` is that of the first byte at
+ *   which no continuation is a tree, or the text's length if it ends too soon.
+ *   Any byte after the semicolon, a line feed too, is such a byte;
+ * - 11 when `out` is shorter than 2(2n-3) bytes. */
+tusvlane_placed tusvlane_read_newick(size_t n, const uint8_t *text,
+                                     size_t text_bytes,
+                                     uint8_t *TUSVLANE_LENT out,
+                                     size_t out_bytes);
 
 /* The state before the first field of a job. */
 tusvlane_state tusvlane_start(void);

@@ -1,8 +1,9 @@
 /* An example client of Tusvlane in C.
  *
- * It checks a tree, judges a move for four partitions, makes the move, and has
- * a wrong move refused. Each line that it prints starts with the number that
- * matters. clients/run-c builds and runs it.
+ * It checks a tree, reads the same tree from its text, judges a move for four
+ * partitions, makes the move, and has a wrong move and a wrong text refused.
+ * Each line that it prints starts with the number that matters. clients/run-c
+ * builds and runs it.
  */
 #include <inttypes.h>
 #include <stdio.h>
@@ -16,6 +17,12 @@ enum { TAXA = 6, ROWS = 2 * TAXA - 3, TABLE_BYTES = 2 * ROWS, PARTITIONS = 4 };
 static const uint8_t tree_s[TABLE_BYTES] = {
     0, 6, 1, 6, 6, 7, 2, 7, 7, 8, 3, 8, 8, 9, 4, 9, 5, 9,
 };
+
+/* The same tree as Newick text. */
+static const char text_s[] = "((((0,1),2),3),4,5);";
+
+/* The text with taxon 4 named twice. */
+static const char wrong_text[] = "((((0,1),2),3),4,4);";
 
 /* Bit i stands for taxon i: all taxa; 0, 2, 3, 4; 0, 1, 4, 5; none. */
 static const uint64_t partitions[PARTITIONS] = {0x3f, 0x1d, 0x33, 0x00};
@@ -52,6 +59,31 @@ static void print_rows(const uint8_t *before, const uint8_t *after)
     printf("%zu rows differ\n", differ);
 }
 
+/* Asks how far a tree is from tree S over all taxa. */
+static void compare(const uint8_t *table)
+{
+    tusvlane_comparison answer = tusvlane_compare(
+        TAXA, table, TABLE_BYTES, tree_s, TABLE_BYTES, partitions[0]);
+    print_answer(answer.refusal, "compared with tree S");
+    if (answer.refusal == 0)
+        printf("%" PRIu64 " splits differ\n", answer.distance);
+}
+
+/* Reads a tree from its text and compares it with tree S. For a text that is
+ * no tree, prints the place where it goes wrong. */
+static void read_text(const char *text, const char *what)
+{
+    uint8_t table[TABLE_BYTES];
+    tusvlane_placed answer =
+        tusvlane_read_newick(TAXA, (const uint8_t *)text, strlen(text), table,
+                             TABLE_BYTES);
+    print_answer(answer.refusal, what);
+    if (answer.refusal == 0)
+        compare(table);
+    else if (answer.refusal == TUSVLANE_TEXT)
+        printf("%zu is the place\n", answer.place);
+}
+
 /* Asks which partitions the move changes. The tree is not moved. The distances
  * hold an answer only when the call is accepted. */
 static void judge(const uint8_t *table)
@@ -84,8 +116,10 @@ int main(void)
     memcpy(table, tree_s, TABLE_BYTES);
     print_answer(tusvlane_check_tree(TAXA, table, TABLE_BYTES),
                  "tree S of 6 taxa");
+    read_text(text_s, "text of tree S");
     judge(table);
     apply(table, good, "NNI 4 3 5 made");
     apply(table, wrong, "NNI 4 3 3");
+    read_text(wrong_text, "text with taxon 4 twice");
     return 0;
 }

@@ -3,11 +3,11 @@
 use mathlib.Core.Path.{_≡_}
 use mathlib.Core.Logic.{_↔_}
 use mathlib.Core.List.{List, _++_}
-use Prim.Native.Nat.{ℕ, suc, _^_, _≤_, _<_}
+use Prim.Native.Nat.{ℕ, suc, _*_, _^_, _≤_, _<_}
 use native.Mathlib.Omega.{arith}
 use lib.ListN.{length}
 use Rattle.taxa.specs.Sets.{Sub}
-use Rattle.tree.specs.Tree.{Valid}
+use Rattle.tree.specs.Tree.{rows, Valid}
 use Rattle.tree.specs.Splits.{splits, dist, distances, unchanged, Gains}
 use Rattle.tree.specs.Refusals.{Said, gives, refuses, written, Accepted}
 use Rattle.tree.proofs.RefusalLaws.{Pass}
@@ -52,13 +52,21 @@ use Rattle.job.specs.declared.Stepped.{Stepped}
 use Rattle.job.proofs.PlainListing.{listing-plain}
 use Rattle.job.proofs.StateLaws.{gives-one}
 use Rattle.job.proofs.RunLaws.{run-is-listing, listing-closes}
+use Rattle.grammar.specs.Newick.{IsTree}
+use Rattle.reader.specs.Promises as reader
+use Rattle.reader.specs.Promises.{Heard, refusesAt, Reads, told, planted}
+use Rattle.reader.specs.Promises.{Right, Plants}
+use Rattle.reader.specs.declared.Reading.{Reading}
+use Rattle.reader.proofs.OneReading.{plants-one, reads-valid, reads-iff}
 use Rattle.tusvlane.specs.Promises as c
 use Rattle.tusvlane.specs.Numbers.{Given, Numbered}
 use Rattle.tusvlane.specs.declared.Answer.{Answer}
+use Rattle.tusvlane.specs.declared.Placed.{Placed}
 use Rattle.tusvlane.specs.declared.StepAnswer.{StepAnswer}
 use Rattle.tusvlane.proofs.NumberLaws.{zero-iff}
 use Rattle.tusvlane.proofs.OneAnswer.{c-induces-one, c-applies-one}
-use Rattle.tusvlane.proofs.OneAnswer.{c-judges-one, c-lists-one, c-steps-one}
+use Rattle.tusvlane.proofs.OneAnswer.{c-judges-one, c-lists-one, c-plants-one}
+use Rattle.tusvlane.proofs.OneAnswer.{c-steps-one}
 
 -- ==== Demand 1: an answer or one refusal for every input, and a refusal
 -- leaves what was lent.
@@ -94,6 +102,10 @@ pub one-listed : (n : ℕ) (t ys : List ℕ) (m : Move) (k : ℕ) (out : List �
     → (a ≡ b) × (u ≡ v) × (o ≡ p)
 one-listed = lists-one
 
+pub one-read : (n : ℕ) (s out : List ℕ) (a b : Reading) (p q : List ℕ)
+    → Plants n s out a p → Plants n s out b q → (a ≡ b) × (p ≡ q)
+one-read = plants-one
+
 pub one-step :
     {o : Outcome} {a b : Stepped} {table t u parts p q out x y : List ℕ}
     → Gives o a table t parts p out x → Gives o b table u parts q out y
@@ -121,6 +133,10 @@ pub one-c-listed : (n : ℕ) (t ys : List ℕ) (m : Move) (k : ℕ) (out : List 
     → c.Lists n t ys m k out place a u p → c.Lists n t ys m k out place b v q
     → (a ≡ b) × (u ≡ v) × (p ≡ q)
 one-c-listed = c-lists-one
+
+pub one-c-read : (n : ℕ) (s out : List ℕ) (a b : Placed) (p q : List ℕ)
+    → c.Plants n s out a p → c.Plants n s out b q → (a ≡ b) × (p ≡ q)
+one-c-read = c-plants-one
 
 pub one-c-step : (o : Outcome) (a b : StepAnswer)
     (table t u parts p q out x y : List ℕ)
@@ -180,6 +196,31 @@ kept-listed n t ys m k out place r t′ out′ p =
     go (gives l) e a b = absurd (let z : _≡_ {A = ℕ} 0 1 = cc in omega arith)
     go (refuses j) e a b = (a, b)
 
+-- A refused text leaves the lent table.
+pub kept-read : (n : ℕ) (s out : List ℕ) (r : Refusal) (out′ : List ℕ)
+    → Plants n s out (Reading.Refused r) out′ → out′ ≡ out
+kept-read n s out r out′ p = go (p .heard) (p .says) (p .memory)
+  where
+    go : (h : Heard (List ℕ)) → reader.refuses (numberOf r) ≡ told h
+        → out′ ≡ planted h out → out′ ≡ out
+    go (reader.gives t) e m =
+        absurd (let z : _≡_ {A = ℕ} 0 1 = cc in omega arith)
+    go (reader.refuses k) e m = m
+    go (refusesAt k q) e m = m
+
+-- So does one that is refused with a place.
+pub kept-read-at : (n : ℕ) (s out : List ℕ) (r : Refusal) (place : ℕ)
+    (out′ : List ℕ) → Plants n s out (Reading.RefusedAt r place) out′
+    → out′ ≡ out
+kept-read-at n s out r place out′ p = go (p .heard) (p .says) (p .memory)
+  where
+    go : (h : Heard (List ℕ)) → refusesAt (numberOf r) place ≡ told h
+        → out′ ≡ planted h out → out′ ≡ out
+    go (reader.gives t) e m =
+        absurd (let z : _≡_ {A = ℕ} 0 1 = cc in omega arith)
+    go (reader.refuses k) e m = m
+    go (refusesAt k q) e m = m
+
 -- A refused step leaves the lent table, partitions and output.
 pub kept-step : (o : Outcome) (r : Refusal) (place : ℕ)
     (table t parts p out x : List ℕ)
@@ -203,6 +244,17 @@ every-job-ends = listing-closes
 
 -- ==== Demand 2: the tree after a move, the induced splits, each verdict, each
 -- distance and the counts are those of the definitions.
+
+-- Every accepted text gives a valid table.
+pub read-valid : (n : ℕ) (s : List ℕ) (room : ℕ) (t : List ℕ)
+    → Reads n s room (reader.gives t) → Accepted n t
+read-valid = reads-valid
+
+-- With a right number of taxa and room for it, a table is given exactly for
+-- the texts of the grammar.
+pub read-iff : (n : ℕ) (s : List ℕ) (room : ℕ) → Right n → 2 * rows n ≤ room
+    → ((t : List ℕ) × Reads n s room (reader.gives t)) ↔ IsTree n s
+read-iff = reads-iff
 
 -- The table after an accepted move on a tree is a tree again.
 pub tree-after : (n : ℕ) (t : List ℕ) (m : Move) → Accepted n t

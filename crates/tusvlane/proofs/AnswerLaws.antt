@@ -20,16 +20,20 @@ use Rattle.judge.specs.declared.Verdict.{Verdict}
 use Rattle.listing.specs.Listing as listing
 use Rattle.listing.specs.Listing.{linesSays}
 use Rattle.listing.specs.declared.Lines.{Lines}
+use Rattle.reader.specs.Promises as reader
+use Rattle.reader.specs.Promises.{refusesAt, readingSays}
+use Rattle.reader.specs.declared.Reading.{Reading}
 use Rattle.job.specs.Job.{Outcome}
 use Rattle.job.specs.Steps.{ended, stopped, steppedSays, Gives}
 use Rattle.job.specs.declared.State.{State}
 use Rattle.job.specs.declared.Stepped.{Stepped}
 use Rattle.tusvlane.specs.declared.Answer.{Answer}
 use Rattle.tusvlane.specs.declared.Comparison.{Comparison}
+use Rattle.tusvlane.specs.declared.Placed.{Placed}
 use Rattle.tusvlane.specs.declared.StepAnswer.{StepAnswer}
 use Rattle.job.specs.Runs.{first}
-use Rattle.tusvlane.specs.Answers.{codeOf, answerOf, comparisonOf, stepAnswerOf}
-use Rattle.tusvlane.specs.Promises.{Induces, Applies, Judges, Lists, Steps}
+use Rattle.tusvlane.specs.Answers.{codeOf, answerOf, comparisonOf, placedOf, stepAnswerOf}
+use Rattle.tusvlane.specs.Promises.{Induces, Applies, Judges, Lists, Plants, Steps}
 
 -- The answer r is q, and a stands for what q says; so a stands for what the
 -- call says.
@@ -60,6 +64,14 @@ verdict-answer = stands verdictSays answerOf
 pub list-answer : {n : ℕ} {t ys : List ℕ} {m : Move} {k : ℕ} {out : List ℕ} {place : ℕ} {t′ out′ : List ℕ} {r q : Lines} {a : Answer}
     → listing.Lists n t ys m k out place r t′ out′ → r ≡ q → a ≡ answerOf (linesSays q) → Lists n t ys m k out place a t′ out′
 list-answer p f g = record { says = stands linesSays answerOf (p .says) f g; table = p .table; memory = p .memory }
+
+pub read-answer : {n : ℕ} {s out out′ : List ℕ} {r q : Reading} {a : Placed}
+    → reader.Plants n s out r out′ → r ≡ q → a ≡ placedOf (readingSays q) → Plants n s out a out′
+read-answer p f g = record { heard = p .heard; by = p .by; says = stands readingSays placedOf (p .says) f g; memory = p .memory }
+
+-- A refusal with a place.
+pub placed-is : (j k p : ℕ) → j ≡ k → record { refusal = j; place = p } ≡ placedOf (refusesAt k p)
+placed-is j k p = ap (λ (i : ℕ). record { refusal = i; place = p })
 
 pub step-answer : {o : Outcome} {r q : Stepped} {a : StepAnswer} {table table′ parts parts′ out out′ : List ℕ}
     → Gives o r table table′ parts parts′ out out′ → r ≡ q → a ≡ stepAnswerOf (steppedSays q) → Steps o a table table′ parts parts′ out out′

@@ -1,6 +1,6 @@
 -- The refusal number of each C answer is 0 exactly when the call gives its
--- answer, and else from 1 to 13. Assumes nothing.
-use mathlib.Core.Path.{_≡_, refl, sym, ap, _∙_}
+-- answer, and else from 1 to 14. Assumes nothing.
+use mathlib.Core.Path.{_≡_, refl, sym, ap, _∙_, subst}
 use mathlib.Core.Logic.{_↔_}
 use mathlib.Core.Bool.{Bool, true, false, _&&_}
 use mathlib.Core.List.{List, [], _∷_, _++_}
@@ -23,32 +23,35 @@ use Rattle.fields.specs.Fields.{tagAt, statedAt, contentAt, numberIn, moveIn, a
 use Rattle.job.specs.Job.{Known, Outcome, next, over, stop, after, taxaField, tableField, partitionField, moveField, withTaxa, withTable, withPartition, withMove, taxaStep, tableStep, partitionStep, moveStep, fieldOf, field, longest}
 use Rattle.job.specs.Steps.{knownOf, stateChecks, stateSaid, fitting, stepped, toldOf}
 use Rattle.job.specs.declared.State.{State}
+use Rattle.reader.specs.Promises as reader
+use Rattle.reader.specs.Promises.{Heard, refusesAt, Reads, of-count, of-text, of-room, of-tree, told}
 use Rattle.tusvlane.specs.declared.Answer.{Answer}
 use Rattle.tusvlane.specs.declared.Comparison.{Comparison}
+use Rattle.tusvlane.specs.declared.Placed.{Placed}
 use Rattle.tusvlane.specs.declared.StepAnswer.{StepAnswer}
-use Rattle.tusvlane.specs.Answers.{codeOf, answerOf, comparisonOf, stepAnswerOf}
-use Rattle.tusvlane.specs.Numbers.{Given, Numbered, answered, refused, stepSaid}
-use Rattle.tusvlane.specs.Promises.{Induces, Applies, Judges, Lists, Steps}
+use Rattle.tusvlane.specs.Answers.{codeOf, answerOf, comparisonOf, placedOf, stepAnswerOf}
+use Rattle.tusvlane.specs.Numbers.{Given, Numbered, answered, refused, readSaid, stepSaid}
+use Rattle.tusvlane.specs.Promises.{Induces, Applies, Judges, Lists, Plants, Steps}
 
 -- ---- the numbers of checks
 
--- Each check on a list has a number from 1 to 13.
+-- Each check on a list has a number from 1 to 14.
 allRanged : List Check → Bool
 allRanged [] = true
-allRanged ((b else k) ∷ cs) = leb 1 k && leb k 13 && allRanged cs
+allRanged ((b else k) ∷ cs) = leb 1 k && leb k 14 && allRanged cs
 
--- A refusal has a number from 1 to 13.
+-- A refusal has a number from 1 to 14.
 abbrev Ranged : {A : Type 0} → Said A → Type 0
 Ranged (gives a) = Unit {0}
-Ranged (refuses k) = (1 ≤ k) × (k ≤ 13)
+Ranged (refuses k) = (1 ≤ k) × (k ≤ 14)
 
 judged-ranged : {A : Type 0} (cs : List Check) (a : A) → allRanged cs ≡ true → Ranged (judged cs a)
 unfolding judged allRanged
 judged-ranged [] a h = tt
-judged-ranged ((true else k) ∷ cs) a h = judged-ranged cs a (and-right (leb 1 k && leb k 13) (allRanged cs) h)
+judged-ranged ((true else k) ∷ cs) a h = judged-ranged cs a (and-right (leb 1 k && leb k 14) (allRanged cs) h)
 judged-ranged ((false else k) ∷ cs) a h =
-    let w = and-left (leb 1 k && leb k 13) (allRanged cs) h in
-    (leb-true 1 k (and-left (leb 1 k) (leb k 13) w), leb-true k 13 (and-right (leb 1 k) (leb k 13) w))
+    let w = and-left (leb 1 k && leb k 14) (allRanged cs) h in
+    (leb-true 1 k (and-left (leb 1 k) (leb k 14) w), leb-true k 14 (and-right (leb 1 k) (leb k 14) w))
 
 -- A number that is 0 for an answer, and a refusal's own for a refusal, stands
 -- for what the call says.
@@ -107,9 +110,24 @@ module _ (n : ℕ) (t : List ℕ) where
         (judged-ranged (treeChecks n t ++ partitionsChecks n ys ++ moveChecks n t m ++ roomChecks (place + length (linesOf n t ys m k)) (length out)) (linesOf n t ys m k) refl)
         (r .refusal) (ap (λ (a : Answer). a .refusal) (p .says))
 
+-- ---- the text
+ranged-read : (n : ℕ) (s : List ℕ) (room : ℕ) (h : Heard (List ℕ)) → Reads n s room h → Ranged (readSaid h)
+ranged-read n s room h (of-count w e) = subst (λ (x : Heard (List ℕ)). Ranged (readSaid x)) (sym e) (omega arith, omega arith)
+ranged-read n s room h (of-text w p g e) = subst (λ (x : Heard (List ℕ)). Ranged (readSaid x)) (sym e) (omega arith, omega arith)
+ranged-read n s room h (of-room w g l e) = subst (λ (x : Heard (List ℕ)). Ranged (readSaid x)) (sym e) (omega arith, omega arith)
+ranged-read n s room h (of-tree w o g l e) = subst (λ (x : Heard (List ℕ)). Ranged (readSaid x)) (sym e) tt
+
+read-stands : (h : Heard (List ℕ)) → Ranged (readSaid h) → (k : ℕ) → k ≡ placedOf (told h) .refusal → Numbered (readSaid h) k
+read-stands (reader.gives t) w k e = answered tt refl e
+read-stands (reader.refuses j) w k e = refused (ap refuses (sym e)) (omega (arith, w .0)) (omega (arith, w .1))
+read-stands (refusesAt j p) w k e = refused (ap refuses (sym e)) (omega (arith, w .0)) (omega (arith, w .1))
+
+pub read-number : (n : ℕ) (s out : List ℕ) (r : Placed) (out′ : List ℕ) (p : Plants n s out r out′) → Numbered (readSaid (p .heard)) (r .refusal)
+read-number n s out r out′ p = read-stands (p .heard) (ranged-read n s (length out) (p .heard) (p .by)) (r .refusal) (ap (λ (a : Placed). a .refusal) (p .says))
+
 -- ---- the step
 
--- Where each way has a number from 1 to 13, so has the one taken.
+-- Where each way has a number from 1 to 14, so has the one taken.
 ranged-pick : (b : Bool) (x y : Outcome) → Ranged (stepSaid x) → Ranged (stepSaid y) → Ranged (stepSaid (pick b x y))
 ranged-pick true x y v w = v
 ranged-pick false x y v w = w

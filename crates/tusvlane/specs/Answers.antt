@@ -4,8 +4,11 @@ use Prim.Native.Nat.{ℕ}
 use Rattle.tree.specs.Refusals.{Said, gives, refuses}
 use Rattle.job.specs.Steps.{Told, told, ended, stopped}
 use Rattle.job.specs.Runs.{first}
+use Rattle.reader.specs.Promises as reader
+use Rattle.reader.specs.Promises.{Heard, refusesAt}
 use Rattle.tusvlane.specs.declared.Answer.{Answer}
 use Rattle.tusvlane.specs.declared.Comparison.{Comparison}
+use Rattle.tusvlane.specs.declared.Placed.{Placed}
 use Rattle.tusvlane.specs.declared.StepAnswer.{StepAnswer}
 
 -- A refusal, or 0.
@@ -23,6 +26,12 @@ abbrev pub comparisonOf : Said (ℕ × ℕ) → Comparison
 comparisonOf (gives w) =
     record { refusal = 0; distance = w .0; missing = w .1 }
 comparisonOf (refuses k) = record { refusal = k; distance = 0; missing = 0 }
+
+-- A refusal with its place where it has one, or 0. All else is 0.
+abbrev pub placedOf : Heard (Unit {0}) → Placed
+placedOf (reader.gives u) = record { refusal = 0; place = 0 }
+placedOf (reader.refuses k) = record { refusal = k; place = 0 }
+placedOf (refusesAt k p) = record { refusal = k; place = p }
 
 -- The next state and how many bytes of lines; or that the job is over; or a
 -- refusal and its place. All else is 0.

@@ -1,9 +1,12 @@
 -- The refusal number of a C answer: 0 where the call gives its answer, from 1
--- to 13 where it is refused.
+-- to 14 where it is refused.
 use Prim.Native.Nat.{ℕ, _≤_}
 use mathlib.Core.Path.{_≡_}
+use mathlib.Core.List.{List}
 use Rattle.tree.specs.Refusals.{Said, gives, refuses}
 use Rattle.job.specs.Job.{Outcome, next, over, stop}
+use Rattle.reader.specs.Promises as reader
+use Rattle.reader.specs.Promises.{Heard, refusesAt}
 
 -- The call gives its answer.
 abbrev pub Given : {A : Type 0} → Said A → Type 0
@@ -14,7 +17,13 @@ Given (refuses k) = ⊥
 -- number for a refusal.
 pub data Numbered {A : Type 0} (s : Said A) (k : ℕ) : Type 0 where
   answered : (a : A) → s ≡ gives a → k ≡ 0 → Numbered s k
-  refused : s ≡ refuses k → 1 ≤ k → k ≤ 13 → Numbered s k
+  refused : s ≡ refuses k → 1 ≤ k → k ≤ 14 → Numbered s k
+
+-- Whether a text is refused.
+abbrev pub readSaid : Heard (List ℕ) → Said (Unit {0})
+readSaid (reader.gives t) = gives tt
+readSaid (reader.refuses k) = refuses k
+readSaid (refusesAt k p) = refuses k
 
 -- Whether a step is refused.
 abbrev pub stepSaid : Outcome → Said (Unit {0})

@@ -11,12 +11,15 @@ use Rattle.splits.specs.Promises.{inducedSaid, howMany}
 use Rattle.judge.specs.Promises.{done, tableAfter, howManySame}
 use Rattle.listing.specs.Listing as listing
 use Rattle.listing.specs.Listing.{linesSaid, placeAfter}
+use Rattle.reader.specs.Promises.{Heard, Reads, told, planted}
 use Rattle.job.specs.Job.{Outcome}
 use Rattle.job.specs.Steps as steps
 use Rattle.job.specs.Steps.{toldOf, partsThen}
 use Rattle.tusvlane.specs.declared.Answer.{Answer}
+use Rattle.tusvlane.specs.declared.Placed.{Placed}
 use Rattle.tusvlane.specs.declared.StepAnswer.{StepAnswer}
-use Rattle.tusvlane.specs.Answers.{codeOf, answerOf, stepAnswerOf}
+use Rattle.tusvlane.specs.Answers.{codeOf, answerOf, placedOf}
+use Rattle.tusvlane.specs.Answers.{stepAnswerOf}
 
 -- tusvlane_induced_splits: how many splits there are, and the list of them at
 -- the start of the output.
@@ -45,6 +48,14 @@ pub record Lists (n : ℕ) (t ys : List ℕ) (m : Move) (k : ℕ) (out : List �
       (moved n t m) t
   pub memory :
       out′ ≡ listing.outThen (linesSaid n t ys m k (length out) place) place out
+
+-- tusvlane_read_newick: 0 and the tree's table at the start of the output, or
+-- a refusal, with its place where the text is no tree.
+pub record Plants (n : ℕ) (s out : List ℕ) (r : Placed) (out′ : List ℕ) : Type 0 where
+  pub heard : Heard (List ℕ)
+  pub by : Reads n s (length out) heard
+  pub says : r ≡ placedOf (told heard)
+  pub memory : out′ ≡ planted heard out
 
 -- tusvlane_step: what is told of the outcome, and the lent memory after it.
 pub record Steps (o : Outcome) (r : StepAnswer) (table table′ parts parts′ out out′ : List ℕ) : Type 0 where

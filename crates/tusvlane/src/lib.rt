@@ -10,7 +10,7 @@ ghost use Rattle.fits.specs.Bytes.{moveOf};
 ghost use Rattle.job.specs.Runs as runs;
 ghost use Rattle.job.specs.Steps.{stepped};
 ghost use Rattle.tusvlane.specs.Answers.{codeOf, answerOf, comparisonOf};
-ghost use Rattle.tusvlane.specs.Promises.{Induces, Applies, Judges, Lists, Steps};
+ghost use Rattle.tusvlane.specs.Promises.{Induces, Applies, Judges, Lists, Plants, Steps};
 use fits::Move;
 use job::State;
 use job::Stepped;
@@ -18,6 +18,7 @@ use judge::Judged;
 use judge::Moved;
 use judge::Verdict;
 use listing::Lines;
+use reader::Reading;
 use splits::Compared;
 use splits::Induced;
 use table::Checked;
@@ -37,6 +38,13 @@ pub struct Comparison {
     pub refusal: u64,
     pub distance: u64,
     pub missing: u64,
+}
+
+// A refusal or 0, and its place in a text.
+#[repr(C)]
+pub struct Placed {
+    pub refusal: u64,
+    pub place: usize,
 }
 
 // A step's refusal or 0 and its place, whether the job is over, how many bytes
@@ -181,6 +189,28 @@ pub extern "C" fn tusvlane_list_move(
         Lines::To(e) => Answer {
             refusal: 0,
             value: e as u64,
+        },
+    }
+}
+
+// Reads a tree of n taxa from its Newick text into the lent table. Refusals 1,
+// 14 with its place, and 11.
+#[no_mangle]
+pub extern "C" fn tusvlane_read_newick(n: usize, text: &[u8], out: &mut [u8]) -> Placed
+    ensures { λ r. ⌜ Plants n (now (text .entry)) (now (out .entry)) r (now (out .exit)) ⌝ }
+{
+    match reader::read_newick(n, text, out) {
+        Reading::Table => Placed {
+            refusal: 0,
+            place: 0,
+        },
+        Reading::Refused(r) => Placed {
+            refusal: table::number(r) as u64,
+            place: 0,
+        },
+        Reading::RefusedAt(r, p) => Placed {
+            refusal: table::number(r) as u64,
+            place: p,
         },
     }
 }
