@@ -120,7 +120,7 @@ fn close(s: &[u8], c: Cursor, x: usize, y: usize, table: &mut [u8]) -> Got
     ensures { λ r. ⌜ ClosedIs (now (s .entry)) c x y (now (table .entry)) (now (table .exit)) r ⌝ }
 {
     let at = c.at;
-    if !is_at(s, at, 41) {
+    if !is_at(s, at, b')') {
         return Got::Bad(at);
     }
     let p = c.next;
@@ -143,7 +143,7 @@ fn member(s: &[u8], n: usize, c: Cursor, least: usize, more: bool, table: &mut [
     ensures { λ r. ⌜ GotIs n (now (s .entry)) c least more (now (table .entry)) (now (table .exit)) r ⌝ }
 {
     let at = c.at;
-    if !is_at(s, at, 40) {
+    if !is_at(s, at, b'(') {
         return taxon_at(s, n, c, more);
     }
     // both of its members need a taxon
@@ -155,7 +155,7 @@ fn member(s: &[u8], n: usize, c: Cursor, least: usize, more: bool, table: &mut [
         return first;
     };
     let at1 = c1.at;
-    if !is_at(s, at1, 44) {
+    if !is_at(s, at1, b',') {
         return Got::Bad(at1);
     }
     let second = member(s, n, ahead(c1), least, more, table);
@@ -170,7 +170,7 @@ fn finish(s: &[u8], at: usize) -> Parsed
     requires { ⌜ at ≤ length (now s) ⌝ }
     ensures { λ r. ⌜ EndIs (now (s .entry)) at r ⌝ }
 {
-    if !is_at(s, at, 59) {
+    if !is_at(s, at, b';') {
         return Parsed::Bad(at);
     }
     if at + 1 < s.len() {
@@ -198,14 +198,14 @@ fn third(s: &[u8], n: usize, c: Cursor, x: usize, y: usize, table: &mut [u8]) ->
     ensures { λ r. ⌜ ParsedIs n (now (s .entry)) (now (table .exit)) r ⌝ }
 {
     let at = c.at;
-    if !is_at(s, at, 44) {
+    if !is_at(s, at, b',') {
         return Parsed::Bad(at);
     }
     match member(s, n, ahead(c), 0, false, table) {
         Got::Bad(q) => Parsed::Bad(q),
         Got::Node(d, z) => {
             let end = d.at;
-            if !is_at(s, end, 41) {
+            if !is_at(s, end, b')') {
                 return Parsed::Bad(end);
             }
             let p = d.next;
@@ -228,7 +228,7 @@ fn after_two(s: &[u8], n: usize, c: Cursor, x: usize, y: usize, table: &mut [u8]
         return third(s, n, c, x, y, table);
     }
     let at = c.at;
-    if !is_at(s, at, 41) {
+    if !is_at(s, at, b')') {
         return Parsed::Bad(at);
     }
     join_both(table, x, y);
@@ -241,7 +241,7 @@ fn after_one(s: &[u8], n: usize, c: Cursor, x: usize, table: &mut [u8]) -> Parse
     ensures { λ r. ⌜ ParsedIs n (now (s .entry)) (now (table .exit)) r ⌝ }
 {
     let at = c.at;
-    if !is_at(s, at, 44) {
+    if !is_at(s, at, b',') {
         return Parsed::Bad(at);
     }
     match member(s, n, ahead(c), 0, true, table) {
@@ -255,7 +255,7 @@ fn outermost(s: &[u8], n: usize, table: &mut [u8]) -> Parsed
     requires { ⌜ (4 ≤ n) × (n ≤ most) × (now table ≡ blank n) ⌝ }
     ensures { λ r. ⌜ ParsedIs n (now (s .entry)) (now (table .exit)) r ⌝ }
 {
-    if !is_at(s, 0, 40) {
+    if !is_at(s, 0, b'(') {
         return Parsed::Bad(0);
     }
     match member(
