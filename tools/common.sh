@@ -1,6 +1,7 @@
 # shellcheck shell=sh
-# What verdicts, clients/run-c and clients/run-rust share. POSIX sh. It is read
-# by them, and not run by itself. They set `top`, the folder of the repository.
+# What verdicts, newick, clients/run-c and clients/run-rust share. POSIX sh. It
+# is read by them, and not run by itself. They set `top`, the folder of the
+# repository.
 
 : "${top:?}"
 
@@ -42,4 +43,39 @@ emulator_folder() {
     folder=$kit/on/$(uname -m)/toolchain
     [ -x "$folder/bin/qemu-x86_64" ] || fail "no emulator at $folder/bin"
     echo "$folder"
+}
+
+# Proves and builds a program, where it is not there or a file of crates/ has
+# changed since. The mark that it is built has the time at which the check
+# began, so that a file changed meanwhile counts as newer.
+build_program() { # NAME
+    mark=$top/target/$1.built
+    [ -x "$top/target/bin/$1" ] && fresh "$mark" && return
+    echo "proving the program, which can take some minutes" >&2
+    mkdir -p "$top/target"
+    : >"$mark.new"
+    prove check "$1"
+    mv "$mark.new" "$mark"
+}
+
+# Starts a program that is built. It is for x86-64. On another machine the
+# kit's emulator runs it, with the loader and the C library that stand beside
+# the emulator.
+start_program() { # NAME
+    if [ "$(uname -m)" = x86_64 ]; then
+        "$top/target/bin/$1"
+    else
+        tools=$(emulator_folder) || exit 1
+        "$tools/bin/qemu-x86_64" "$tools/lib/ld-linux-x86-64.so.2" \
+            --library-path "$tools/lib" "$top/target/bin/$1"
+    fi
+}
+
+# Runs a program that is built. It has no status of its own: what it says on
+# standard error tells that it failed, and is put into `said`.
+run_program() { # NAME
+    exec 3>&1
+    said=$(start_program "$1" 2>&1 >&3) ||
+        said="${said:-the program was stopped}"
+    [ -z "$said" ]
 }

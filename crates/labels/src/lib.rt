@@ -14,7 +14,7 @@ pub enum Label {
 }
 
 // The digit at a place, or 10 where none stands there.
-fn value_at(s: &[u8], at: usize) -> usize
+pub fn value_at(s: &[u8], at: usize) -> usize
     ensures { λ r. ⌜ r ≡ valueAt (now (s .entry)) at ⌝ }
 {
     if s.len() <= at {

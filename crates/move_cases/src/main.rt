@@ -5,10 +5,11 @@ use fits::Move;
 use judge::Judged;
 use judge::Moved;
 use judge::Verdict;
+use prints::kept;
 use prints::line;
-use prints::number;
 use prints::numbers;
 use prints::put;
+use prints::rows;
 use prints::say;
 use samples::APART;
 use samples::FOUR;
@@ -43,18 +44,6 @@ fn tbr(a: u8, b: u8, c: u8) -> Move {
     four(3, a, b, c)
 }
 
-// Writes the rows of a table as document 01 does, a dash between the two ends.
-fn rows(t: &[u8]) {
-    let m = t.len() / 2;
-    let mut i: usize = 0;
-    while i < m {
-        number(table::lo(t, i) as u64);
-        put(b"-");
-        say(table::hi(t, i) as u64);
-        i += 1;
-    }
-}
-
 // Whether two tables have the same bytes.
 fn same_bytes(a: &[u8], b: &[u8]) -> bool {
     if a.len() != b.len() {
@@ -83,15 +72,6 @@ fn same_numbers(a: &[u64], b: &[u64]) -> bool {
         i += 1;
     }
     true
-}
-
-// Says whether what was lent is as it was.
-fn kept(same: bool) {
-    if same {
-        put(b"kept, ");
-    } else {
-        put(b"not kept, ");
-    }
 }
 
 // A line for a move judged for one partition: the distance, or the refusal.

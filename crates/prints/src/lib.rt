@@ -32,3 +32,24 @@ pub fn numbers(l: &[u64]) {
         i += 1;
     }
 }
+
+// Writes the rows of a table as document 01 does, a dash between the two ends.
+pub fn rows(t: &[u8]) {
+    let m = t.len() / 2;
+    let mut i: usize = 0;
+    while i < m {
+        number(table::lo(t, i) as u64);
+        put(b"-");
+        say(table::hi(t, i) as u64);
+        i += 1;
+    }
+}
+
+// Says whether what was lent is as it was.
+pub fn kept(same: bool) {
+    if same {
+        put(b"kept, ");
+    } else {
+        put(b"not kept, ");
+    }
+}

@@ -1,9 +1,9 @@
--- `move_cases::rows` meets its contract. Assumes nothing.
+-- `prints::rows` meets its contract. Assumes nothing.
 use Prim.Native.Nat.{_≤_, _*_, _-_}
 use lib.ListN.{length}
 use borrow.Author.Needs.{needs}
-use Rattle.move_cases.proofs.rows.Statement.{statement}
-use Rattle.move_cases.proofs.rows.Tie as tie
+use Rattle.prints.proofs.rows.Statement.{statement}
+use Rattle.prints.proofs.rows.Tie as tie
 
 abbrev Inv-loop : tie.InvT-loop
 Inv-loop t m i₀ t4 i =
