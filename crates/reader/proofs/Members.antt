@@ -15,7 +15,7 @@ use Rattle.taxa.proofs.Bools.{and-left, and-right}
 use Rattle.labels.specs.Labels.{digit, Stop}
 use Rattle.labels.proofs.TextLaws.{one-digit, two-digits, label-settled}
 use Rattle.text.specs.Lines.{decimal}
-use Rattle.grammar.specs.Newick.{Member, taxon, group, text, times}
+use Rattle.grammar.specs.Newick.{Member, taxon, group, text, times, comma, closes}
 use Rattle.grammar.specs.Numbers.{groups}
 use Rattle.grammar.proofs.Labels.{Below, labels-all, full-labels, size-with, total}
 use Rattle.reader.specs.Slots.{mark, Within, Fits, allowed, Next, Over}
@@ -264,8 +264,8 @@ settled (group l r) (taxon e) w w′ h k v s p =
     let f = label-first e w′ (k e (rw (eq-eqb e e refl) (omega arith))) in
     absurd (omega (arith, f .3, head-is (p ∙ f .2)))
 settled (group l r) (group l′ r′) w w′ h k v s p =
-    let a = settled l l′ (44 ∷ text r (41 ∷ w)) (44 ∷ text r′ (41 ∷ w′)) (λ x q. h x (omega (arith, q))) (λ x q. k x (omega (arith, q))) (over-stop l _ (stop-at 44 _ refl)) (stop-at 44 _ refl) (tail-is p) in
-    let b = settled r r′ (41 ∷ w) (41 ∷ w′) (λ x q. h x (omega (arith, q))) (λ x q. k x (omega (arith, q))) (over-stop r _ (stop-at 41 _ refl)) (stop-at 41 _ refl) (tail-is (a .1)) in
+    let a = settled l l′ (comma ∷ text r (closes ∷ w)) (comma ∷ text r′ (closes ∷ w′)) (λ x q. h x (omega (arith, q))) (λ x q. k x (omega (arith, q))) (over-stop l _ (stop-at comma _ refl)) (stop-at comma _ refl) (tail-is p) in
+    let b = settled r r′ (closes ∷ w) (closes ∷ w′) (λ x q. h x (omega (arith, q))) (λ x q. k x (omega (arith, q))) (over-stop r _ (stop-at closes _ refl)) (stop-at closes _ refl) (tail-is (a .1)) in
     (ap₂ group (a .0) (b .0), tail-is (b .1))
 
 pub next-stop : (w : List ℕ) → Next w → Stop w

@@ -15,7 +15,7 @@ use Rattle.tree.specs.Refusals.{Accepted}
 use Rattle.table.specs.Says.{numberOf}
 use Rattle.table.proofs.Numbers.{number-one}
 use Rattle.labels.specs.Labels.{digit}
-use Rattle.grammar.specs.Newick.{Member, Outermost, two, three, text, whole, times, timesIn, EachOnce, IsTree, GoesOn, NoTree}
+use Rattle.grammar.specs.Newick.{Member, Outermost, two, three, text, whole, times, timesIn, EachOnce, IsTree, GoesOn, NoTree, comma, closes}
 use Rattle.grammar.specs.Numbers.{table}
 use Rattle.grammar.proofs.Labels.{Below}
 use Rattle.grammar.proofs.Low.{low-some}
@@ -41,21 +41,21 @@ module _ (n : ℕ) (few : n ≤ 64) where
   one-tree : (o q : Outermost) → EachOnce n o → EachOnce n q → whole o ≡ whole q → o ≡ q
   unfolding whole timesIn
   one-tree (two a b) (two c d) h k e =
-      let w = both a c 44 44 _ _ (low a (two a b) h (λ x. omega arith)) (low c (two c d) k (λ x. omega arith)) refl refl (tail-is e) in
-      let v = both b d 41 41 _ _ (low b (two a b) h (λ x. omega arith)) (low d (two c d) k (λ x. omega arith)) refl refl (w .2) in
+      let w = both a c comma comma _ _ (low a (two a b) h (λ x. omega arith)) (low c (two c d) k (λ x. omega arith)) refl refl (tail-is e) in
+      let v = both b d closes closes _ _ (low b (two a b) h (λ x. omega arith)) (low d (two c d) k (λ x. omega arith)) refl refl (w .2) in
       ap₂ two (w .0) (v .0)
   one-tree (two a b) (three c d f) h k e =
-      let w = both a c 44 44 _ _ (low a (two a b) h (λ x. omega arith)) (low c (three c d f) k (λ x. omega arith)) refl refl (tail-is e) in
-      let v = both b d 41 44 _ _ (low b (two a b) h (λ x. omega arith)) (low d (three c d f) k (λ x. omega arith)) refl refl (w .2) in
+      let w = both a c comma comma _ _ (low a (two a b) h (λ x. omega arith)) (low c (three c d f) k (λ x. omega arith)) refl refl (tail-is e) in
+      let v = both b d closes comma _ _ (low b (two a b) h (λ x. omega arith)) (low d (three c d f) k (λ x. omega arith)) refl refl (w .2) in
       absurd (omega (arith, v .1))
   one-tree (three a b c) (two d f) h k e =
-      let w = both a d 44 44 _ _ (low a (three a b c) h (λ x. omega arith)) (low d (two d f) k (λ x. omega arith)) refl refl (tail-is e) in
-      let v = both b f 44 41 _ _ (low b (three a b c) h (λ x. omega arith)) (low f (two d f) k (λ x. omega arith)) refl refl (w .2) in
+      let w = both a d comma comma _ _ (low a (three a b c) h (λ x. omega arith)) (low d (two d f) k (λ x. omega arith)) refl refl (tail-is e) in
+      let v = both b f comma closes _ _ (low b (three a b c) h (λ x. omega arith)) (low f (two d f) k (λ x. omega arith)) refl refl (w .2) in
       absurd (omega (arith, v .1))
   one-tree (three a b c) (three d f g) h k e =
-      let w = both a d 44 44 _ _ (low a (three a b c) h (λ x. omega arith)) (low d (three d f g) k (λ x. omega arith)) refl refl (tail-is e) in
-      let v = both b f 44 44 _ _ (low b (three a b c) h (λ x. omega arith)) (low f (three d f g) k (λ x. omega arith)) refl refl (w .2) in
-      let u = both c g 41 41 _ _ (low c (three a b c) h (λ x. omega arith)) (low g (three d f g) k (λ x. omega arith)) refl refl (v .2) in
+      let w = both a d comma comma _ _ (low a (three a b c) h (λ x. omega arith)) (low d (three d f g) k (λ x. omega arith)) refl refl (tail-is e) in
+      let v = both b f comma comma _ _ (low b (three a b c) h (λ x. omega arith)) (low f (three d f g) k (λ x. omega arith)) refl refl (w .2) in
+      let u = both c g closes closes _ _ (low c (three a b c) h (λ x. omega arith)) (low g (three d f g) k (λ x. omega arith)) refl refl (v .2) in
       three-same (w .0) (v .0) (u .0)
     where
       three-same : {a b c d f g : Member} → a ≡ d → b ≡ f → c ≡ g → three a b c ≡ three d f g

@@ -12,7 +12,7 @@ use borrow.Author.Tests.{eq-eqb}
 use Rattle.taxa.specs.Sets.{has, size}
 use Rattle.text.specs.Lines.{decimal}
 use Rattle.labels.specs.Labels.{Stop, Found, Missed}
-use Rattle.grammar.specs.Newick.{Member, taxon, group, text, times, IsTree, GoesOn, NoTree}
+use Rattle.grammar.specs.Newick.{Member, taxon, group, text, times, IsTree, GoesOn, NoTree, opens, comma, closes}
 use Rattle.grammar.specs.Numbers.{groups}
 use Rattle.grammar.proofs.Labels.{Below}
 use Rattle.reader.specs.Slots.{mark, Fits, allowed, Over, Onward, Slot, here, Past}
@@ -39,14 +39,14 @@ module _ (n : ℕ) (few : n ≤ 64) (s : List ℕ) (at u m : ℕ) (o : Bool) (S 
       no x (ended l e) q = text-some (q .member) (q .rest) (low (q .member) (q .fits)) (sym e ∙ q .is)
 
   -- no label begins with a parenthesis
-  no-taxon : (d : ℕ) (w y : List ℕ) → Fits n u m o (taxon d) → 40 ∷ y ≡ text (taxon d) w → ⊥
+  no-taxon : (d : ℕ) (w y : List ℕ) → Fits n u m o (taxon d) → opens ∷ y ≡ text (taxon d) w → ⊥
   unfolding text times
   no-taxon d w y f e =
       let l = label-first d w (low (taxon d) f d (rw (eq-eqb d d refl) (omega arith))) in
       omega (arith, l .3, head-is (e ∙ l .2))
 
   -- a group for which too few taxa are left
-  pub too-deep : at < length s → getD s at 0 ≡ 40 → n < size n u + m + 2 → NoTree n s at
+  pub too-deep : at < length s → getD s at 0 ≡ opens → n < size n u + m + 2 → NoTree n s at
   unfolding groups
   too-deep h b r′ = stuck n s at (S .inside) goes (λ x a t. no x a (S .settles x t))
     where
@@ -54,7 +54,7 @@ module _ (n : ℕ) (few : n ≤ 64) (s : List ℕ) (at u m : ℕ) (o : Bool) (S 
       no x (ended l e) q = absurd (omega (arith, h, l))
       no x (byte l y e) q = go (q .member) (q .fits) (ap (λ (c : ℕ). c ∷ y) (sym b) ∙ sym e ∙ q .is)
         where
-          go : (t : Member) → Fits n u m o t → 40 ∷ y ≡ text t (q .rest) → ⊥
+          go : (t : Member) → Fits n u m o t → opens ∷ y ≡ text t (q .rest) → ⊥
           go (taxon d) f i = no-taxon d (q .rest) y f i
           go (group l r) f i = omega (arith, r′, f .room)
 
@@ -64,7 +64,7 @@ module _ (n : ℕ) (few : n ≤ 64) (s : List ℕ) (at u m : ℕ) (o : Bool) (S 
   taxon-on d p w e (v, t) =
       (w ++ v, as-tree n (sym (append-assoc (take at s) (decimal d) v) ∙ ap (λ (l : List ℕ). l ++ v) (sym e) ∙ append-assoc (take p s) w v) t)
 
-  module _ (h : at < length s) (b : getD s at 0 ≡ 40 → ⊥) where
+  module _ (h : at < length s) (b : getD s at 0 ≡ opens → ⊥) where
     is-taxon : (y : List ℕ) → IsTree n (take at s ++ (getD s at 0 ∷ y))
         → (d : ℕ) × (w : List ℕ) × (has (allowed n u o) d ≡ true) × Stop w × (getD s at 0 ∷ y ≡ decimal d ++ w)
     unfolding text
@@ -116,107 +116,107 @@ module _ (n : ℕ) (few : n ≤ 64) (s : List ℕ) (at u m : ℕ) (o : Bool) (S 
     pub right : Member
     pub rest : List ℕ
     pub fits : Fits n u m o (group left right)
-    pub is : x ≡ text left (44 ∷ text right (41 ∷ rest))
+    pub is : x ≡ text left (comma ∷ text right (closes ∷ rest))
 
-  module _ (h : here s at 40 ≡ true) where
+  module _ (h : here s at opens ≡ true) where
     opened : (x : List ℕ) → IsTree n (take (at + 1) s ++ x) → Opened x
     unfolding text
     opened x t =
-        let q = S .settles (40 ∷ x) (as-tree n (here-step s at 40 h x) t) in
+        let q = S .settles (opens ∷ x) (as-tree n (here-step s at opens h x) t) in
         go (q .member) (q .rest) (q .fits) (q .is)
       where
-        go : (t : Member) (w : List ℕ) → Fits n u m o t → 40 ∷ x ≡ text t w → Opened x
+        go : (t : Member) (w : List ℕ) → Fits n u m o t → opens ∷ x ≡ text t w → Opened x
         go (group l r) w f e = record { left = l; right = r; rest = w; fits = f; is = tail-is e }
         go (taxon d) w f e = absurd (no-taxon d w x f e)
 
-    to-group : (l r : Member) → Fits n u m o (group l r) → (w : List ℕ) × IsTree n (take (at + 1) s ++ text l (44 ∷ text r (41 ∷ w)))
+    to-group : (l r : Member) → Fits n u m o (group l r) → (w : List ℕ) × IsTree n (take (at + 1) s ++ text l (comma ∷ text r (closes ∷ w)))
     unfolding text
     to-group l r f =
         let g = S .fills (group l r) f in
-        (g .0, as-tree n (sym (here-step s at 40 h (text l (44 ∷ text r (41 ∷ g .0))))) (g .1))
+        (g .0, as-tree n (sym (here-step s at opens h (text l (comma ∷ text r (closes ∷ g .0))))) (g .1))
 
     -- the slot of the first member
     pub left-slot : size n u + m + 2 ≤ n → Slot n s (at + 1) u (suc m) true
     left-slot r = record {
-      inside = omega (arith, here-in s at 40 h);
+      inside = omega (arith, here-in s at opens h);
       within = S .within;
       room = omega (arith, r);
       last = λ e. absurd (true≢false e);
       settles = λ x t. let q = opened x t in record {
         member = q .left;
-        rest = 44 ∷ text (q .right) (41 ∷ q .rest);
-        next = next-at 44 _ refl;
+        rest = comma ∷ text (q .right) (closes ∷ q .rest);
+        next = next-at comma _ refl;
         fits = fits-left n u m o (q .left) (q .right) (q .fits);
         is = q .is;
       };
       fills = λ l f.
           let g = fill n (mark l u) m o (mark-within n u (suc m) true l f) (omega (arith, mark-size n u (suc m) true l f, f .room)) (S .last) in
           let k = to-group l (g .0) (fits-group n u m o l (g .0) f (g .1)) in
-          (44 ∷ text (g .0) (41 ∷ k .0), k .1);
+          (comma ∷ text (g .0) (closes ∷ k .0), k .1);
     }
 
     module _ (l : Member) (p : ℕ) (L : Past n s (at + 1) u (suc m) true l p) where
       -- a tree goes on after the first member as this group does
-      after-left : (x : List ℕ) → Over l x → IsTree n (take p s ++ x) → (r : Member) × (w : List ℕ) × Fits n (mark l u) m o r × (x ≡ 44 ∷ text r (41 ∷ w))
+      after-left : (x : List ℕ) → Over l x → IsTree n (take p s ++ x) → (r : Member) × (w : List ℕ) × Fits n (mark l u) m o r × (x ≡ comma ∷ text r (closes ∷ w))
       after-left x v t =
           let q = opened (text l x) (as-tree n (L .is x) t) in
-          let e = settled l (q .left) x (44 ∷ text (q .right) (41 ∷ q .rest)) (below n u (suc m) true l few (L .fits))
-          (below n u (suc m) true (q .left) few (fits-left n u m o (q .left) (q .right) (q .fits))) v (stop-at 44 _ refl) (q .is) in
+          let e = settled l (q .left) x (comma ∷ text (q .right) (closes ∷ q .rest)) (below n u (suc m) true l few (L .fits))
+          (below n u (suc m) true (q .left) few (fits-left n u m o (q .left) (q .right) (q .fits))) v (stop-at comma _ refl) (q .is) in
           let f : Fits n u m o (group l (q .right)) = subst (λ (k : Member). Fits n u m o (group k (q .right))) (sym (e .0)) (q .fits) in
           (q .right, q .rest, fits-right n u m o l (q .right) f, e .1)
 
-      pub no-comma : here s p 44 ≡ false → NoTree n s p
+      pub no-comma : here s p comma ≡ false → NoTree n s p
       no-comma e =
           let g = fill n (mark l u) m o (mark-within n u (suc m) true l (L .fits)) (omega (arith, mark-size n u (suc m) true l (L .fits), L .fits .room)) (S .last) in
           let k = to-group l (g .0) (fits-group n u m o l (g .0) (L .fits) (g .1)) in
-          expect n s p (L .inside) 44
-          (44 ∷ text (g .0) (41 ∷ k .0), as-tree n (sym (L .is (44 ∷ text (g .0) (41 ∷ k .0)))) (k .1))
-          (λ x a t. let q = after-left x (over-agrees l s p x (L .over) a) t in (text (q .0) (41 ∷ q .1), q .3)) e
+          expect n s p (L .inside) comma
+          (comma ∷ text (g .0) (closes ∷ k .0), as-tree n (sym (L .is (comma ∷ text (g .0) (closes ∷ k .0)))) (k .1))
+          (λ x a t. let q = after-left x (over-agrees l s p x (L .over) a) t in (text (q .0) (closes ∷ q .1), q .3)) e
 
-      module _ (c : here s p 44 ≡ true) where
-        after-comma : (x : List ℕ) → IsTree n (take (p + 1) s ++ x) → (r : Member) × (w : List ℕ) × Fits n (mark l u) m o r × (x ≡ text r (41 ∷ w))
+      module _ (c : here s p comma ≡ true) where
+        after-comma : (x : List ℕ) → IsTree n (take (p + 1) s ++ x) → (r : Member) × (w : List ℕ) × Fits n (mark l u) m o r × (x ≡ text r (closes ∷ w))
         after-comma x t =
-            let q = after-left (44 ∷ x) (over-stop l (44 ∷ x) (stop-at 44 x refl)) (as-tree n (here-step s p 44 c x) t) in
+            let q = after-left (comma ∷ x) (over-stop l (comma ∷ x) (stop-at comma x refl)) (as-tree n (here-step s p comma c x) t) in
             (q .0, q .1, q .2, tail-is (q .3))
 
-        to-right : (r : Member) → Fits n (mark l u) m o r → (w : List ℕ) × IsTree n (take (p + 1) s ++ text r (41 ∷ w))
+        to-right : (r : Member) → Fits n (mark l u) m o r → (w : List ℕ) × IsTree n (take (p + 1) s ++ text r (closes ∷ w))
         to-right r f =
             let k = to-group l r (fits-group n u m o l r (L .fits) f) in
-            (k .0, as-tree n (sym (here-step s p 44 c (text r (41 ∷ k .0)) ∙ L .is (44 ∷ text r (41 ∷ k .0)))) (k .1))
+            (k .0, as-tree n (sym (here-step s p comma c (text r (closes ∷ k .0)) ∙ L .is (comma ∷ text r (closes ∷ k .0)))) (k .1))
 
         -- the slot of the second member
         pub right-slot : Slot n s (p + 1) (mark l u) m o
         right-slot = record {
-          inside = omega (arith, here-in s p 44 c);
+          inside = omega (arith, here-in s p comma c);
           within = mark-within n u (suc m) true l (L .fits);
           room = omega (arith, mark-size n u (suc m) true l (L .fits), L .fits .room);
           last = S .last;
           settles = λ x t. let q = after-comma x t in record {
             member = q .0;
-            rest = 41 ∷ q .1;
-            next = next-at 41 _ refl;
+            rest = closes ∷ q .1;
+            next = next-at closes _ refl;
             fits = q .2;
             is = q .3;
           };
-          fills = λ r f. let k = to-right r f in (41 ∷ k .0, k .1);
+          fills = λ r f. let k = to-right r f in (closes ∷ k .0, k .1);
         }
 
         module _ (r : Member) (q : ℕ) (R : Past n s (p + 1) (mark l u) m o r q) where
-          pub no-close : here s q 41 ≡ false → NoTree n s q
+          pub no-close : here s q closes ≡ false → NoTree n s q
           no-close e =
               let k = to-right r (R .fits) in
-              expect n s q (R .inside) 41 (41 ∷ k .0, as-tree n (sym (R .is (41 ∷ k .0))) (k .1))
+              expect n s q (R .inside) closes (closes ∷ k .0, as-tree n (sym (R .is (closes ∷ k .0))) (k .1))
               (λ x a t.
               let f = after-comma (text r x) (as-tree n (R .is x) t) in
-              let g = settled r (f .0) x (41 ∷ f .1) (below n (mark l u) m o r few (R .fits)) (below n (mark l u) m o (f .0) few (f .2)) (over-agrees r s q x (R .over) a) (stop-at 41 _ refl) (f .3) in
+              let g = settled r (f .0) x (closes ∷ f .1) (below n (mark l u) m o r few (R .fits)) (below n (mark l u) m o (f .0) few (f .2)) (over-agrees r s q x (R .over) a) (stop-at closes _ refl) (f .3) in
               (f .1, g .1)) e
 
-          pub past-group : here s q 41 ≡ true → Past n s at u m o (group l r) (q + 1)
+          pub past-group : here s q closes ≡ true → Past n s at u m o (group l r) (q + 1)
           unfolding text
           past-group e = record {
             fits = fits-group n u m o l r (L .fits) (R .fits);
-            is = λ x. here-step s q 41 e x ∙ R .is (41 ∷ x) ∙ here-step s p 44 c (text r (41 ∷ x)) ∙ L .is (44 ∷ text r (41 ∷ x)) ∙ here-step s at 40 h (text l (44 ∷ text r (41 ∷ x)));
+            is = λ x. here-step s q closes e x ∙ R .is (closes ∷ x) ∙ here-step s p comma c (text r (closes ∷ x)) ∙ L .is (comma ∷ text r (closes ∷ x)) ∙ here-step s at opens h (text l (comma ∷ text r (closes ∷ x)));
             moved = omega (arith, L .moved, R .moved);
-            inside = omega (arith, here-in s q 41 e);
+            inside = omega (arith, here-in s q closes e);
             over = tt;
           }

@@ -17,7 +17,7 @@ use Rattle.text.specs.Lines.{decimal}
 use Rattle.labels.specs.Labels.{Found, Missed, LabelIs}
 use Rattle.labels.specs.declared.Label.{Label}
 use Rattle.labels.specs.declared.Label.the-variants as label
-use Rattle.grammar.specs.Newick.{taxon, group, NoTree}
+use Rattle.grammar.specs.Newick.{taxon, group, NoTree, opens, comma}
 use Rattle.grammar.specs.Numbers.{groups, node, join, withRows, smaller, larger}
 use Rattle.grammar.proofs.Writes.{length-join}
 use Rattle.grammar.proofs.Valid.{node-lt, length-rows}
@@ -113,12 +113,12 @@ ready-at n s t z c m o e r = subst (λ (y : Cursor). Ready n s t y m o) (sym e) 
 -- ---- a member
 module _ (n : ℕ) (s t : List ℕ) (c : Cursor) (m : ℕ) (o : Bool) (R : Ready n s t c m o) where
   -- a label
-  pub got-taxon : here s (c .at) 40 ≡ false → (r : Got) → TakenIs n s c o r → GotIs n s c m o t t r
+  pub got-taxon : here s (c .at) opens ≡ false → (r : Got) → TakenIs n s c o r → GotIs n s c m o t t r
   unfolding withRows node groups mark
   got-taxon e (got.Bad p) M = go (ltb (c .at) (length s)) refl
     where
-      not-open : c .at < length s → getD s (c .at) 0 ≡ 40 → ⊥
-      not-open h q = true≢false (sym (ap₂ _&&_ (lt-ltb (c .at) (length s) h) (eq-eqb (getD s (c .at) 0) 40 q)) ∙ e)
+      not-open : c .at < length s → getD s (c .at) 0 ≡ opens → ⊥
+      not-open h q = true≢false (sym (ap₂ _&&_ (lt-ltb (c .at) (length s) h) (eq-eqb (getD s (c .at) 0) opens q)) ∙ e)
 
       go : (b : Bool) → ltb (c .at) (length s) ≡ b → NoTree n s p
       go true l = let h = ltb-true (c .at) (length s) l in bad-label n (R .few) s (c .at) (c .used) m o (R .slot) h (not-open h) p M
@@ -138,9 +138,9 @@ module _ (n : ℕ) (s t : List ℕ) (c : Cursor) (m : ℕ) (o : Bool) (R : Ready
   count-is : size most (c .used) ≡ size n (c .used)
   count-is = size-is n (c .used) (R .few) (R .slot .within)
 
-  module _ (h₀ : here s (c .at) 40 ≡ true) where
+  module _ (h₀ : here s (c .at) opens ≡ true) where
     pub group-bad : n < size most (c .used) + m + 2 → NoTree n s (c .at)
-    group-bad k = too-deep n (R .few) s (c .at) (c .used) m o (R .slot) (here-in s (c .at) 40 h₀) (here-is s (c .at) 40 h₀) (omega (arith, k, count-is))
+    group-bad k = too-deep n (R .few) s (c .at) (c .used) m o (R .slot) (here-in s (c .at) opens h₀) (here-is s (c .at) opens h₀) (omega (arith, k, count-is))
 
     module _ (deep : size most (c .used) + m + 2 ≤ n) where
       room : size n (c .used) + m + 2 ≤ n
@@ -160,13 +160,13 @@ module _ (n : ℕ) (s t : List ℕ) (c : Cursor) (m : ℕ) (o : Bool) (R : Ready
         past-left : Past n s (c .at + 1) (c .used) (suc m) true (L .member) (d .at)
         past-left = subst (λ (i : ℕ). Past n s (c .at + 1) (c .used) i true (L .member) (d .at)) (add-one m) (L .past)
 
-        pub comma-bad : here s (d .at) 44 ≡ false → NoTree n s (d .at)
+        pub comma-bad : here s (d .at) comma ≡ false → NoTree n s (d .at)
         comma-bad e = no-comma n (R .few) s (c .at) (c .used) m o (R .slot) h₀ (L .member) (d .at) past-left e
 
         left-size : size n (d .used) ≡ size n (c .used) + suc (groups (L .member))
         left-size = ap (size n) (L .used) ∙ mark-size n (c .used) (suc m) true (L .member) (past-left .fits)
 
-        module _ (k : here s (d .at) 44 ≡ true) where
+        module _ (k : here s (d .at) comma ≡ true) where
           pub right-ready : Ready n s t₁ (ahead d) m o
           right-ready = record {
             big = R .big;

@@ -13,7 +13,7 @@ use Rattle.taxa.specs.Most.{most}
 use Rattle.taxa.specs.Sets.{size}
 use Rattle.taxa.proofs.Sizes.{size-none, size-le}
 use Rattle.tree.specs.Tree.{rows}
-use Rattle.grammar.specs.Newick.{Outermost, two, three, NoTree}
+use Rattle.grammar.specs.Newick.{Outermost, two, three, NoTree, opens, comma, closes}
 use Rattle.grammar.specs.Numbers.{groups, node, join, withRows, blank, smaller, larger, table}
 use Rattle.grammar.proofs.Writes.{length-join, blank-length}
 use Rattle.grammar.proofs.Valid.{node-lt, length-rows, last-larger}
@@ -34,7 +34,7 @@ end-parsed n s p o C t e (parsed.Bad q) (inr (i, h, l)) = subst (NoTree n s) (sy
 
 module _ (n : ℕ) (s : List ℕ) where
   -- ---- the first member
-  module _ (big : 4 ≤ n) (few : n ≤ most) (h : here s 0 40 ≡ true) (t : List ℕ) (b : t ≡ blank n) where
+  module _ (big : 4 ≤ n) (few : n ≤ most) (h : here s 0 opens ≡ true) (t : List ℕ) (b : t ≡ blank n) where
     pub first-ready : Ready n s t (record { at = 1; next = n; used = 0 }) 1 true
     first-ready = record {
       big = big;
@@ -60,10 +60,10 @@ module _ (n : ℕ) (s : List ℕ) where
 
   -- ---- the second member
   module _ (t : List ℕ) (c : Cursor) (x : ℕ) (O : One n s t c x) where
-    pub no-second : here s (c .at) 44 ≡ false → NoTree n s (c .at)
+    pub no-second : here s (c .at) comma ≡ false → NoTree n s (c .at)
     no-second e = no-first-comma n (O .few) s (O .opened) (O .first) (c .at) (O .past) e
 
-    module _ (k : here s (c .at) 44 ≡ true) where
+    module _ (k : here s (c .at) comma ≡ true) where
       pub second-ready : Ready n s t (ahead c) 0 true
       second-ready = record {
         big = O .big;
@@ -119,7 +119,7 @@ module _ (n : ℕ) (s : List ℕ) where
       none : size n (mark (T .second) (mark (T .first) 0)) ≡ n
       none = sym both-size ∙ sym counted ∙ all
 
-      pub no-end : here s (c .at) 41 ≡ false → NoTree n s (c .at)
+      pub no-end : here s (c .at) closes ≡ false → NoTree n s (c .at)
       no-end e = no-two-close n (T .few) s (T .opened) (T .first) (T .place) (T .past-first) (T .parted) (T .second) (c .at) (T .past) none e
 
       ends : ((node (T .first) n < node (T .second) (n + groups (T .first))) × (node (T .second) (n + groups (T .first)) ≡ rows n))
@@ -139,7 +139,7 @@ module _ (n : ℕ) (s : List ℕ) where
       pub join-room : (2 * smaller x y + 1 < length t) × (x < 256) × (y < 256)
       join-room = (omega (arith, smaller-low, two-length), omega (arith, x-low, size-both, counted, all, T .few), omega (arith, y-low, T .next, size-both, counted, all, T .few))
 
-      pub two-parsed : (e : here s (c .at) 41 ≡ true) (u : List ℕ) → u ≡ join (smaller x y) (larger x y) t → (r : Parsed) → EndIs s (c .at + 1) r → ParsedIs n s u r
+      pub two-parsed : (e : here s (c .at) closes ≡ true) (u : List ℕ) → u ≡ join (smaller x y) (larger x y) t → (r : Parsed) → EndIs s (c .at + 1) r → ParsedIs n s u r
       unfolding table
       two-parsed e u q =
           end-parsed n s (c .at + 1) (two (T .first) (T .second)) (two-closing n (T .few) s (T .opened) (T .first) (T .place) (T .past-first) (T .parted) (T .second) (c .at) (T .past) none e)
@@ -150,10 +150,10 @@ module _ (n : ℕ) (s : List ℕ) where
       some : size n (mark (T .second) (mark (T .first) 0)) < n
       some = omega (arith, left, both-size)
 
-      pub no-third : here s (c .at) 44 ≡ false → NoTree n s (c .at)
+      pub no-third : here s (c .at) comma ≡ false → NoTree n s (c .at)
       no-third e = no-second-comma n (T .few) s (T .opened) (T .first) (T .place) (T .past-first) (T .parted) (T .second) (c .at) (T .past) some e
 
-      module _ (k : here s (c .at) 44 ≡ true) where
+      module _ (k : here s (c .at) comma ≡ true) where
         pub third-ready : Ready n s t (ahead c) 0 false
         third-ready = record {
           big = T .big;
@@ -168,7 +168,7 @@ module _ (n : ℕ) (s : List ℕ) where
           past-third : Past n s (c .at + 1) (mark (T .second) (mark (T .first) 0)) 0 false (Q .member) (d .at)
           past-third = subst (λ (u : ℕ). Past n s (c .at + 1) u 0 false (Q .member) (d .at)) (T .used) (Q .past)
 
-          pub no-last : here s (d .at) 41 ≡ false → NoTree n s (d .at)
+          pub no-last : here s (d .at) closes ≡ false → NoTree n s (d .at)
           no-last e = no-three-close n (T .few) s (T .opened) (T .first) (T .place) (T .past-first) (T .parted) (T .second) (c .at) (T .past) some k (Q .member) (d .at) past-third e
 
           -- the outermost group is the last node
@@ -199,7 +199,7 @@ module _ (n : ℕ) (s : List ℕ) where
               pub z-room : (2 * z + 1 < length t₃) × (z < 256) × (d .next < 256)
               z-room = fits-row t₃ z (ap length e₃ ∙ length-join t₂ y (d .next) ∙ length₂) z-low
 
-              pub three-parsed : (e : here s (d .at) 41 ≡ true) (u : List ℕ) → u ≡ join z (d .next) t₃ → (r : Parsed) → EndIs s (d .at + 1) r → ParsedIs n s u r
+              pub three-parsed : (e : here s (d .at) closes ≡ true) (u : List ℕ) → u ≡ join z (d .next) t₃ → (r : Parsed) → EndIs s (d .at + 1) r → ParsedIs n s u r
               unfolding table
               three-parsed e u q =
                   end-parsed n s (d .at + 1) (three (T .first) (T .second) (Q .member))

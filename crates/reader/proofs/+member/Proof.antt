@@ -7,6 +7,7 @@ use lib.ListN.{length}
 use borrow.Author.Tests.{not-true, not-false}
 use Rattle.taxa.specs.Sets.{size}
 use Rattle.taxa.proofs.Sizes.{size-le}
+use Rattle.grammar.specs.Newick.{opens, comma}
 use Rattle.reader.specs.Slots.{here}
 use Rattle.reader.specs.Stages.{ahead}
 use Rattle.reader.proofs.Places.{here-in}
@@ -64,11 +65,11 @@ member-add-if2-2 t c =
 
 member-returns-2 : (t : ℕ) → member-lts.Need-returns-2 (claims t) (member-at t) member.Post
 member-returns-2 t c =
-    let s = c .before .before .before .before .before .before .args .s .now in let n = c .before .before .before .before .before .before .args .n in let u = c .before .before .before .before .before .before .args .table .now in let k = c .before .before .before .before .before .before .args .c in let m = c .before .before .before .before .before .before .args .least in let o = c .before .before .before .before .before .before .args .more in let R = c .before .before .before .before .before .before .pre .1 in let H : here s (k .at) 40 ≡ true = sym (c .before .before .before .is-at .ensures) ∙ not-false _ (c .before .before .if1 .left) in group-bad n s u k m o R H (omega (arith, c .if2 .taken, c .before .size .ensures))
+    let s = c .before .before .before .before .before .before .args .s .now in let n = c .before .before .before .before .before .before .args .n in let u = c .before .before .before .before .before .before .args .table .now in let k = c .before .before .before .before .before .before .args .c in let m = c .before .before .before .before .before .before .args .least in let o = c .before .before .before .before .before .before .args .more in let R = c .before .before .before .before .before .before .pre .1 in let H : here s (k .at) opens ≡ true = sym (c .before .before .before .is-at .ensures) ∙ not-false _ (c .before .before .if1 .left) in group-bad n s u k m o R H (omega (arith, c .if2 .taken, c .before .size .ensures))
 
 member-ahead-requires : (t : ℕ) → member-lts.Need-ahead-requires (claims t) (member-at t) member.Post
 member-ahead-requires t c κs =
-    let s = c .before .before .before .before .before .before .args .s .now in let n = c .before .before .before .before .before .before .args .n in let u = c .before .before .before .before .before .before .args .table .now in let k = c .before .before .before .before .before .before .args .c in let m = c .before .before .before .before .before .before .args .least in let o = c .before .before .before .before .before .before .args .more in let R = c .before .before .before .before .before .before .pre .1 in let H : here s (k .at) 40 ≡ true = sym (c .before .before .before .is-at .ensures) ∙ not-false _ (c .before .before .if1 .left) in let i = here-in s _ 40 H in let b = c .before .before .before .before .before .before .good .0 in search needs
+    let s = c .before .before .before .before .before .before .args .s .now in let n = c .before .before .before .before .before .before .args .n in let u = c .before .before .before .before .before .before .args .table .now in let k = c .before .before .before .before .before .before .args .c in let m = c .before .before .before .before .before .before .args .least in let o = c .before .before .before .before .before .before .args .more in let R = c .before .before .before .before .before .before .pre .1 in let H : here s (k .at) opens ≡ true = sym (c .before .before .before .is-at .ensures) ∙ not-false _ (c .before .before .if1 .left) in let i = here-in s _ opens H in let b = c .before .before .before .before .before .before .good .0 in search needs
 
 member-add-member : (t : ℕ) → member-lts.Need-add-member (claims t) (member-at t) member.Post
 member-add-member t c =
@@ -76,7 +77,7 @@ member-add-member t c =
 
 member-member-requires : (t : ℕ) → member-lts.Need-member-requires (claims t) (member-at t) member.Post
 member-member-requires t c κs =
-    let s = c .before .before .before .before .before .before .before .before .args .s .now in let n = c .before .before .before .before .before .before .before .before .args .n in let u = c .before .before .before .before .before .before .before .before .args .table .now in let k = c .before .before .before .before .before .before .before .before .args .c in let m = c .before .before .before .before .before .before .before .before .args .least in let o = c .before .before .before .before .before .before .before .before .args .more in let R = c .before .before .before .before .before .before .before .before .pre .1 in let H : here s (k .at) 40 ≡ true = sym (c .before .before .before .before .before .is-at .ensures) ∙ not-false _ (c .before .before .before .before .if1 .left) in let D : size 64 (k .used) + m + 2 ≤ n = omega (arith, c .before .before .if2 .left, c .before .before .before .size .ensures) in (omega (arith, c .before .before .before .before .before .before .before .before .pre .0, here-in s _ 40 H, ap (λ z. z .at) (c .before .ahead .ensures)), ready-at n s u _ (ahead k) (m + 1) true (c .before .ahead .ensures) (left-ready n s u k m o R H D))
+    let s = c .before .before .before .before .before .before .before .before .args .s .now in let n = c .before .before .before .before .before .before .before .before .args .n in let u = c .before .before .before .before .before .before .before .before .args .table .now in let k = c .before .before .before .before .before .before .before .before .args .c in let m = c .before .before .before .before .before .before .before .before .args .least in let o = c .before .before .before .before .before .before .before .before .args .more in let R = c .before .before .before .before .before .before .before .before .pre .1 in let H : here s (k .at) opens ≡ true = sym (c .before .before .before .before .before .is-at .ensures) ∙ not-false _ (c .before .before .before .before .if1 .left) in let D : size 64 (k .used) + m + 2 ≤ n = omega (arith, c .before .before .if2 .left, c .before .before .before .size .ensures) in (omega (arith, c .before .before .before .before .before .before .before .before .pre .0, here-in s _ opens H, ap (λ z. z .at) (c .before .ahead .ensures)), ready-at n s u _ (ahead k) (m + 1) true (c .before .ahead .ensures) (left-ready n s u k m o R H D))
 
 member-enum-known-first : (t : ℕ) → member-lts.Need-enum-known-first (claims t) (member-at t) member.Post
 member-enum-known-first t c = search needs
@@ -99,15 +100,15 @@ member-same-length-2 t c = search needs
 
 member-returns-4 : (t : ℕ) → member-lts.Need-returns-4 (claims t) (member-at t) member.Post
 member-returns-4 t c =
-    let s = c .before .before .before .before .before .before .before .before .before .before .before .before .before .before .before .before .args .s .now in let n = c .before .before .before .before .before .before .before .before .before .before .before .before .before .before .before .before .args .n in let u = c .before .before .before .before .before .before .before .before .before .before .before .before .before .before .before .before .args .table .now in let k = c .before .before .before .before .before .before .before .before .before .before .before .before .before .before .before .before .args .c in let m = c .before .before .before .before .before .before .before .before .before .before .before .before .before .before .before .before .args .least in let o = c .before .before .before .before .before .before .before .before .before .before .before .before .before .before .before .before .args .more in let R = c .before .before .before .before .before .before .before .before .before .before .before .before .before .before .before .before .pre .1 in let H : here s (k .at) 40 ≡ true = sym (c .before .before .before .before .before .before .before .before .before .before .before .before .before .is-at .ensures) ∙ not-false _ (c .before .before .before .before .before .before .before .before .before .before .before .before .if1 .left) in let D : size 64 (k .used) + m + 2 ≤ n = omega (arith, c .before .before .before .before .before .before .before .before .before .before .if2 .left, c .before .before .before .before .before .before .before .before .before .before .before .size .ensures) in let L = read-is n s (c .before .before .before .before .before .before .before .member .result) _ (ahead k) _ (m + 1) _ true u _ (c .before .before .before .before .before .before .before .before .before .ahead .ensures) (c .before .before .before .first .given .1) (c .before .before .before .before .before .before .before .member .ensures) in comma-bad n s u k m o R H D _ _ _ L (sym (c .before .is-at2 .ensures) ∙ not-true _ (c .if3 .taken))
+    let s = c .before .before .before .before .before .before .before .before .before .before .before .before .before .before .before .before .args .s .now in let n = c .before .before .before .before .before .before .before .before .before .before .before .before .before .before .before .before .args .n in let u = c .before .before .before .before .before .before .before .before .before .before .before .before .before .before .before .before .args .table .now in let k = c .before .before .before .before .before .before .before .before .before .before .before .before .before .before .before .before .args .c in let m = c .before .before .before .before .before .before .before .before .before .before .before .before .before .before .before .before .args .least in let o = c .before .before .before .before .before .before .before .before .before .before .before .before .before .before .before .before .args .more in let R = c .before .before .before .before .before .before .before .before .before .before .before .before .before .before .before .before .pre .1 in let H : here s (k .at) opens ≡ true = sym (c .before .before .before .before .before .before .before .before .before .before .before .before .before .is-at .ensures) ∙ not-false _ (c .before .before .before .before .before .before .before .before .before .before .before .before .if1 .left) in let D : size 64 (k .used) + m + 2 ≤ n = omega (arith, c .before .before .before .before .before .before .before .before .before .before .if2 .left, c .before .before .before .before .before .before .before .before .before .before .before .size .ensures) in let L = read-is n s (c .before .before .before .before .before .before .before .member .result) _ (ahead k) _ (m + 1) _ true u _ (c .before .before .before .before .before .before .before .before .before .ahead .ensures) (c .before .before .before .first .given .1) (c .before .before .before .before .before .before .before .member .ensures) in comma-bad n s u k m o R H D _ _ _ L (sym (c .before .is-at2 .ensures) ∙ not-true _ (c .if3 .taken))
 
 member-ahead-requires-2 : (t : ℕ) → member-lts.Need-ahead-requires-2 (claims t) (member-at t) member.Post
 member-ahead-requires-2 t c κs =
-    let s = c .before .before .before .before .before .before .before .before .before .before .before .before .before .before .before .before .args .s .now in let n = c .before .before .before .before .before .before .before .before .before .before .before .before .before .before .before .before .args .n in let u = c .before .before .before .before .before .before .before .before .before .before .before .before .before .before .before .before .args .table .now in let k = c .before .before .before .before .before .before .before .before .before .before .before .before .before .before .before .before .args .c in let m = c .before .before .before .before .before .before .before .before .before .before .before .before .before .before .before .before .args .least in let o = c .before .before .before .before .before .before .before .before .before .before .before .before .before .before .before .before .args .more in let R = c .before .before .before .before .before .before .before .before .before .before .before .before .before .before .before .before .pre .1 in let K : here s _ 44 ≡ true = sym (c .before .is-at2 .ensures) ∙ not-false _ (c .if3 .left) in let i = here-in s _ 44 K in let b = c .before .before .before .before .before .before .before .before .before .before .before .before .before .before .before .before .good .0 in search needs
+    let s = c .before .before .before .before .before .before .before .before .before .before .before .before .before .before .before .before .args .s .now in let n = c .before .before .before .before .before .before .before .before .before .before .before .before .before .before .before .before .args .n in let u = c .before .before .before .before .before .before .before .before .before .before .before .before .before .before .before .before .args .table .now in let k = c .before .before .before .before .before .before .before .before .before .before .before .before .before .before .before .before .args .c in let m = c .before .before .before .before .before .before .before .before .before .before .before .before .before .before .before .before .args .least in let o = c .before .before .before .before .before .before .before .before .before .before .before .before .before .before .before .before .args .more in let R = c .before .before .before .before .before .before .before .before .before .before .before .before .before .before .before .before .pre .1 in let K : here s _ comma ≡ true = sym (c .before .is-at2 .ensures) ∙ not-false _ (c .if3 .left) in let i = here-in s _ comma K in let b = c .before .before .before .before .before .before .before .before .before .before .before .before .before .before .before .before .good .0 in search needs
 
 member-member-requires-2 : (t : ℕ) → member-lts.Need-member-requires-2 (claims t) (member-at t) member.Post
 member-member-requires-2 t c κs =
-    let s = c .before .before .before .before .before .before .before .before .before .before .before .before .before .before .before .before .before .before .args .s .now in let n = c .before .before .before .before .before .before .before .before .before .before .before .before .before .before .before .before .before .before .args .n in let u = c .before .before .before .before .before .before .before .before .before .before .before .before .before .before .before .before .before .before .args .table .now in let k = c .before .before .before .before .before .before .before .before .before .before .before .before .before .before .before .before .before .before .args .c in let m = c .before .before .before .before .before .before .before .before .before .before .before .before .before .before .before .before .before .before .args .least in let o = c .before .before .before .before .before .before .before .before .before .before .before .before .before .before .before .before .before .before .args .more in let R = c .before .before .before .before .before .before .before .before .before .before .before .before .before .before .before .before .before .before .pre .1 in let H : here s (k .at) 40 ≡ true = sym (c .before .before .before .before .before .before .before .before .before .before .before .before .before .before .before .is-at .ensures) ∙ not-false _ (c .before .before .before .before .before .before .before .before .before .before .before .before .before .before .if1 .left) in let D : size 64 (k .used) + m + 2 ≤ n = omega (arith, c .before .before .before .before .before .before .before .before .before .before .before .before .if2 .left, c .before .before .before .before .before .before .before .before .before .before .before .before .before .size .ensures) in let L = read-is n s (c .before .before .before .before .before .before .before .before .before .member .result) _ (ahead k) _ (m + 1) _ true u _ (c .before .before .before .before .before .before .before .before .before .before .before .ahead .ensures) (c .before .before .before .before .before .first .given .1) (c .before .before .before .before .before .before .before .before .before .member .ensures) in let K : here s _ 44 ≡ true = sym (c .before .before .before .is-at2 .ensures) ∙ not-false _ (c .before .before .if3 .left) in (omega (arith, c .before .before .before .before .before .before .before .before .before .before .before .before .before .before .before .before .before .before .pre .0, L .past .moved, here-in s _ 44 K, ap (λ z. z .at) (c .before .ahead2 .ensures)), ready-at n s _ _ (ahead (c .before .before .before .before .before .first .given .0 .0)) m o (c .before .ahead2 .ensures) (right-ready n s u k m o R H D _ _ _ L K))
+    let s = c .before .before .before .before .before .before .before .before .before .before .before .before .before .before .before .before .before .before .args .s .now in let n = c .before .before .before .before .before .before .before .before .before .before .before .before .before .before .before .before .before .before .args .n in let u = c .before .before .before .before .before .before .before .before .before .before .before .before .before .before .before .before .before .before .args .table .now in let k = c .before .before .before .before .before .before .before .before .before .before .before .before .before .before .before .before .before .before .args .c in let m = c .before .before .before .before .before .before .before .before .before .before .before .before .before .before .before .before .before .before .args .least in let o = c .before .before .before .before .before .before .before .before .before .before .before .before .before .before .before .before .before .before .args .more in let R = c .before .before .before .before .before .before .before .before .before .before .before .before .before .before .before .before .before .before .pre .1 in let H : here s (k .at) opens ≡ true = sym (c .before .before .before .before .before .before .before .before .before .before .before .before .before .before .before .is-at .ensures) ∙ not-false _ (c .before .before .before .before .before .before .before .before .before .before .before .before .before .before .if1 .left) in let D : size 64 (k .used) + m + 2 ≤ n = omega (arith, c .before .before .before .before .before .before .before .before .before .before .before .before .if2 .left, c .before .before .before .before .before .before .before .before .before .before .before .before .before .size .ensures) in let L = read-is n s (c .before .before .before .before .before .before .before .before .before .member .result) _ (ahead k) _ (m + 1) _ true u _ (c .before .before .before .before .before .before .before .before .before .before .before .ahead .ensures) (c .before .before .before .before .before .first .given .1) (c .before .before .before .before .before .before .before .before .before .member .ensures) in let K : here s _ comma ≡ true = sym (c .before .before .before .is-at2 .ensures) ∙ not-false _ (c .before .before .if3 .left) in (omega (arith, c .before .before .before .before .before .before .before .before .before .before .before .before .before .before .before .before .before .before .pre .0, L .past .moved, here-in s _ comma K, ap (λ z. z .at) (c .before .ahead2 .ensures)), ready-at n s _ _ (ahead (c .before .before .before .before .before .first .given .0 .0)) m o (c .before .ahead2 .ensures) (right-ready n s u k m o R H D _ _ _ L K))
 
 member-enum-known-second : (t : ℕ) → member-lts.Need-enum-known-second (claims t) (member-at t) member.Post
 member-enum-known-second t c = search needs
@@ -124,14 +125,14 @@ member-returns-5 t c =
 
 member-close-requires : (t : ℕ) → member-lts.Need-close-requires (claims t) (member-at t) member.Post
 member-close-requires t c κs =
-    let s = c .before .before .before .before .before .before .before .before .before .before .before .before .before .before .before .before .before .before .before .before .before .before .before .before .before .args .s .now in let n = c .before .before .before .before .before .before .before .before .before .before .before .before .before .before .before .before .before .before .before .before .before .before .before .before .before .args .n in let u = c .before .before .before .before .before .before .before .before .before .before .before .before .before .before .before .before .before .before .before .before .before .before .before .before .before .args .table .now in let k = c .before .before .before .before .before .before .before .before .before .before .before .before .before .before .before .before .before .before .before .before .before .before .before .before .before .args .c in let m = c .before .before .before .before .before .before .before .before .before .before .before .before .before .before .before .before .before .before .before .before .before .before .before .before .before .args .least in let o = c .before .before .before .before .before .before .before .before .before .before .before .before .before .before .before .before .before .before .before .before .before .before .before .before .before .args .more in let R = c .before .before .before .before .before .before .before .before .before .before .before .before .before .before .before .before .before .before .before .before .before .before .before .before .before .pre .1 in let H : here s (k .at) 40 ≡ true = sym (c .before .before .before .before .before .before .before .before .before .before .before .before .before .before .before .before .before .before .before .before .before .before .is-at .ensures) ∙ not-false _ (c .before .before .before .before .before .before .before .before .before .before .before .before .before .before .before .before .before .before .before .before .before .if1 .left) in let D : size 64 (k .used) + m + 2 ≤ n = omega (arith, c .before .before .before .before .before .before .before .before .before .before .before .before .before .before .before .before .before .before .before .if2 .left, c .before .before .before .before .before .before .before .before .before .before .before .before .before .before .before .before .before .before .before .before .size .ensures) in let L = read-is n s (c .before .before .before .before .before .before .before .before .before .before .before .before .before .before .before .before .member .result) _ (ahead k) _ (m + 1) _ true u _ (c .before .before .before .before .before .before .before .before .before .before .before .before .before .before .before .before .before .before .ahead .ensures) (c .before .before .before .before .before .before .before .before .before .before .before .before .first .given .1) (c .before .before .before .before .before .before .before .before .before .before .before .before .before .before .before .before .member .ensures) in let K : here s _ 44 ≡ true = sym (c .before .before .before .before .before .before .before .before .before .before .is-at2 .ensures) ∙ not-false _ (c .before .before .before .before .before .before .before .before .before .if3 .left) in let Q = read-is n s (c .before .before .before .before .before .before .member2 .result) _ (ahead (c .before .before .before .before .before .before .before .before .before .before .before .before .first .given .0 .0)) _ m _ o _ _ (c .before .before .before .before .before .before .before .before .ahead2 .ensures) (c .before .before .second .given .1) (c .before .before .before .before .before .before .member2 .ensures) in to-close n s u k m o R H D _ _ _ L K _ _ _ Q
+    let s = c .before .before .before .before .before .before .before .before .before .before .before .before .before .before .before .before .before .before .before .before .before .before .before .before .before .args .s .now in let n = c .before .before .before .before .before .before .before .before .before .before .before .before .before .before .before .before .before .before .before .before .before .before .before .before .before .args .n in let u = c .before .before .before .before .before .before .before .before .before .before .before .before .before .before .before .before .before .before .before .before .before .before .before .before .before .args .table .now in let k = c .before .before .before .before .before .before .before .before .before .before .before .before .before .before .before .before .before .before .before .before .before .before .before .before .before .args .c in let m = c .before .before .before .before .before .before .before .before .before .before .before .before .before .before .before .before .before .before .before .before .before .before .before .before .before .args .least in let o = c .before .before .before .before .before .before .before .before .before .before .before .before .before .before .before .before .before .before .before .before .before .before .before .before .before .args .more in let R = c .before .before .before .before .before .before .before .before .before .before .before .before .before .before .before .before .before .before .before .before .before .before .before .before .before .pre .1 in let H : here s (k .at) opens ≡ true = sym (c .before .before .before .before .before .before .before .before .before .before .before .before .before .before .before .before .before .before .before .before .before .before .is-at .ensures) ∙ not-false _ (c .before .before .before .before .before .before .before .before .before .before .before .before .before .before .before .before .before .before .before .before .before .if1 .left) in let D : size 64 (k .used) + m + 2 ≤ n = omega (arith, c .before .before .before .before .before .before .before .before .before .before .before .before .before .before .before .before .before .before .before .if2 .left, c .before .before .before .before .before .before .before .before .before .before .before .before .before .before .before .before .before .before .before .before .size .ensures) in let L = read-is n s (c .before .before .before .before .before .before .before .before .before .before .before .before .before .before .before .before .member .result) _ (ahead k) _ (m + 1) _ true u _ (c .before .before .before .before .before .before .before .before .before .before .before .before .before .before .before .before .before .before .ahead .ensures) (c .before .before .before .before .before .before .before .before .before .before .before .before .first .given .1) (c .before .before .before .before .before .before .before .before .before .before .before .before .before .before .before .before .member .ensures) in let K : here s _ comma ≡ true = sym (c .before .before .before .before .before .before .before .before .before .before .is-at2 .ensures) ∙ not-false _ (c .before .before .before .before .before .before .before .before .before .if3 .left) in let Q = read-is n s (c .before .before .before .before .before .before .member2 .result) _ (ahead (c .before .before .before .before .before .before .before .before .before .before .before .before .first .given .0 .0)) _ m _ o _ _ (c .before .before .before .before .before .before .before .before .ahead2 .ensures) (c .before .before .second .given .1) (c .before .before .before .before .before .before .member2 .ensures) in to-close n s u k m o R H D _ _ _ L K _ _ _ Q
 
 member-same-length-4 : (t : ℕ) → member-lts.Need-same-length-4 (claims t) (member-at t) member.Post
 member-same-length-4 t c = search needs
 
 member-returns-6 : (t : ℕ) → member-lts.Need-returns-6 (claims t) (member-at t) member.Post
 member-returns-6 t c =
-    let s = c .before .before .before .before .before .before .before .before .before .before .before .before .before .before .before .before .before .before .before .before .before .before .before .before .before .before .before .before .args .s .now in let n = c .before .before .before .before .before .before .before .before .before .before .before .before .before .before .before .before .before .before .before .before .before .before .before .before .before .before .before .before .args .n in let u = c .before .before .before .before .before .before .before .before .before .before .before .before .before .before .before .before .before .before .before .before .before .before .before .before .before .before .before .before .args .table .now in let k = c .before .before .before .before .before .before .before .before .before .before .before .before .before .before .before .before .before .before .before .before .before .before .before .before .before .before .before .before .args .c in let m = c .before .before .before .before .before .before .before .before .before .before .before .before .before .before .before .before .before .before .before .before .before .before .before .before .before .before .before .before .args .least in let o = c .before .before .before .before .before .before .before .before .before .before .before .before .before .before .before .before .before .before .before .before .before .before .before .before .before .before .before .before .args .more in let R = c .before .before .before .before .before .before .before .before .before .before .before .before .before .before .before .before .before .before .before .before .before .before .before .before .before .before .before .before .pre .1 in let H : here s (k .at) 40 ≡ true = sym (c .before .before .before .before .before .before .before .before .before .before .before .before .before .before .before .before .before .before .before .before .before .before .before .before .before .is-at .ensures) ∙ not-false _ (c .before .before .before .before .before .before .before .before .before .before .before .before .before .before .before .before .before .before .before .before .before .before .before .before .if1 .left) in let D : size 64 (k .used) + m + 2 ≤ n = omega (arith, c .before .before .before .before .before .before .before .before .before .before .before .before .before .before .before .before .before .before .before .before .before .before .if2 .left, c .before .before .before .before .before .before .before .before .before .before .before .before .before .before .before .before .before .before .before .before .before .before .before .size .ensures) in let L = read-is n s (c .before .before .before .before .before .before .before .before .before .before .before .before .before .before .before .before .before .before .before .member .result) _ (ahead k) _ (m + 1) _ true u _ (c .before .before .before .before .before .before .before .before .before .before .before .before .before .before .before .before .before .before .before .before .before .ahead .ensures) (c .before .before .before .before .before .before .before .before .before .before .before .before .before .before .before .first .given .1) (c .before .before .before .before .before .before .before .before .before .before .before .before .before .before .before .before .before .before .before .member .ensures) in let K : here s _ 44 ≡ true = sym (c .before .before .before .before .before .before .before .before .before .before .before .before .before .is-at2 .ensures) ∙ not-false _ (c .before .before .before .before .before .before .before .before .before .before .before .before .if3 .left) in let Q = read-is n s (c .before .before .before .before .before .before .before .before .before .member2 .result) _ (ahead (c .before .before .before .before .before .before .before .before .before .before .before .before .before .before .before .first .given .0 .0)) _ m _ o _ _ (c .before .before .before .before .before .before .before .before .before .before .before .ahead2 .ensures) (c .before .before .before .before .before .second .given .1) (c .before .before .before .before .before .before .before .before .before .member2 .ensures) in got-group n s u k m o R H D _ _ _ L K _ _ _ Q _ (c .before .before .close .result) (c .before .before .close .ensures)
+    let s = c .before .before .before .before .before .before .before .before .before .before .before .before .before .before .before .before .before .before .before .before .before .before .before .before .before .before .before .before .args .s .now in let n = c .before .before .before .before .before .before .before .before .before .before .before .before .before .before .before .before .before .before .before .before .before .before .before .before .before .before .before .before .args .n in let u = c .before .before .before .before .before .before .before .before .before .before .before .before .before .before .before .before .before .before .before .before .before .before .before .before .before .before .before .before .args .table .now in let k = c .before .before .before .before .before .before .before .before .before .before .before .before .before .before .before .before .before .before .before .before .before .before .before .before .before .before .before .before .args .c in let m = c .before .before .before .before .before .before .before .before .before .before .before .before .before .before .before .before .before .before .before .before .before .before .before .before .before .before .before .before .args .least in let o = c .before .before .before .before .before .before .before .before .before .before .before .before .before .before .before .before .before .before .before .before .before .before .before .before .before .before .before .before .args .more in let R = c .before .before .before .before .before .before .before .before .before .before .before .before .before .before .before .before .before .before .before .before .before .before .before .before .before .before .before .before .pre .1 in let H : here s (k .at) opens ≡ true = sym (c .before .before .before .before .before .before .before .before .before .before .before .before .before .before .before .before .before .before .before .before .before .before .before .before .before .is-at .ensures) ∙ not-false _ (c .before .before .before .before .before .before .before .before .before .before .before .before .before .before .before .before .before .before .before .before .before .before .before .before .if1 .left) in let D : size 64 (k .used) + m + 2 ≤ n = omega (arith, c .before .before .before .before .before .before .before .before .before .before .before .before .before .before .before .before .before .before .before .before .before .before .if2 .left, c .before .before .before .before .before .before .before .before .before .before .before .before .before .before .before .before .before .before .before .before .before .before .before .size .ensures) in let L = read-is n s (c .before .before .before .before .before .before .before .before .before .before .before .before .before .before .before .before .before .before .before .member .result) _ (ahead k) _ (m + 1) _ true u _ (c .before .before .before .before .before .before .before .before .before .before .before .before .before .before .before .before .before .before .before .before .before .ahead .ensures) (c .before .before .before .before .before .before .before .before .before .before .before .before .before .before .before .first .given .1) (c .before .before .before .before .before .before .before .before .before .before .before .before .before .before .before .before .before .before .before .member .ensures) in let K : here s _ comma ≡ true = sym (c .before .before .before .before .before .before .before .before .before .before .before .before .before .is-at2 .ensures) ∙ not-false _ (c .before .before .before .before .before .before .before .before .before .before .before .before .if3 .left) in let Q = read-is n s (c .before .before .before .before .before .before .before .before .before .member2 .result) _ (ahead (c .before .before .before .before .before .before .before .before .before .before .before .before .before .before .before .first .given .0 .0)) _ m _ o _ _ (c .before .before .before .before .before .before .before .before .before .before .before .ahead2 .ensures) (c .before .before .before .before .before .second .given .1) (c .before .before .before .before .before .before .before .before .before .member2 .ensures) in got-group n s u k m o R H D _ _ _ L K _ _ _ Q _ (c .before .before .close .result) (c .before .before .close .ensures)
 
 pub +member-spec : {M : Type 1} → statement M
 +member-spec = close μ-member λ t. member-lts.spec (claims t)

@@ -2,6 +2,7 @@
 use mathlib.Core.Path.{_≡_, sym, _∙_}
 use mathlib.Core.Bool.{true}
 use borrow.Author.Tests.{not-true, not-false}
+use Rattle.grammar.specs.Newick.{comma}
 use Rattle.reader.specs.Slots.{here}
 use Rattle.reader.proofs.Places.{here-in}
 use Rattle.reader.proofs.StageLaws.{bad-is, read-is, ready-at}
@@ -20,11 +21,11 @@ returns c =
 
 ahead-requires : tie.Need-ahead-requires
 ahead-requires c κs =
-    let s = c .before .before .before .before .args .s .now in let n = c .before .before .before .before .args .n in let u = c .before .before .before .before .args .table .now in let k = c .before .before .before .before .args .c in let x = c .before .before .before .before .args .x in let K : here s _ 44 ≡ true = sym (c .before .is-at .ensures) ∙ not-false _ (c .if1 .left) in let i = here-in s _ 44 K in let b = c .before .before .before .before .good .0 in search needs
+    let s = c .before .before .before .before .args .s .now in let n = c .before .before .before .before .args .n in let u = c .before .before .before .before .args .table .now in let k = c .before .before .before .before .args .c in let x = c .before .before .before .before .args .x in let K : here s _ comma ≡ true = sym (c .before .is-at .ensures) ∙ not-false _ (c .if1 .left) in let i = here-in s _ comma K in let b = c .before .before .before .before .good .0 in search needs
 
 member-requires : tie.Need-member-requires
 member-requires c κs =
-    let s = c .before .before .before .before .before .before .args .s .now in let n = c .before .before .before .before .before .before .args .n in let u = c .before .before .before .before .before .before .args .table .now in let k = c .before .before .before .before .before .before .args .c in let x = c .before .before .before .before .before .before .args .x in let O = c .before .before .before .before .before .before .pre in let K : here s _ 44 ≡ true = sym (c .before .before .before .is-at .ensures) ∙ not-false _ (c .before .before .if1 .left) in ready-at n s u _ (ahead k) 0 true (c .before .ahead .ensures) (second-ready n s u k x O K)
+    let s = c .before .before .before .before .before .before .args .s .now in let n = c .before .before .before .before .before .before .args .n in let u = c .before .before .before .before .before .before .args .table .now in let k = c .before .before .before .before .before .before .args .c in let x = c .before .before .before .before .before .before .args .x in let O = c .before .before .before .before .before .before .pre in let K : here s _ comma ≡ true = sym (c .before .before .before .is-at .ensures) ∙ not-false _ (c .before .before .if1 .left) in ready-at n s u _ (ahead k) 0 true (c .before .ahead .ensures) (second-ready n s u k x O K)
 
 enum-known-p : tie.Need-enum-known-p
 enum-known-p c = search needs
@@ -34,7 +35,7 @@ enum-known-d c = search needs
 
 after-two-requires : tie.Need-after-two-requires
 after-two-requires c κs =
-    let s = c .before .before .before .before .before .before .before .before .before .before .before .before .before .args .s .now in let n = c .before .before .before .before .before .before .before .before .before .before .before .before .before .args .n in let u = c .before .before .before .before .before .before .before .before .before .before .before .before .before .args .table .now in let k = c .before .before .before .before .before .before .before .before .before .before .before .before .before .args .c in let x = c .before .before .before .before .before .before .before .before .before .before .before .before .before .args .x in let O = c .before .before .before .before .before .before .before .before .before .before .before .before .before .pre in let K : here s _ 44 ≡ true = sym (c .before .before .before .before .before .before .before .before .before .before .is-at .ensures) ∙ not-false _ (c .before .before .before .before .before .before .before .before .before .if1 .left) in let Q = read-is n s (c .before .before .before .before .before .before .member .result) _ (ahead k) _ 0 _ true u _ (c .before .before .before .before .before .before .before .before .ahead .ensures) (c .before .before .d .given .1) (c .before .before .before .before .before .before .member .ensures) in two-read n s u k x O K _ _ _ Q
+    let s = c .before .before .before .before .before .before .before .before .before .before .before .before .before .args .s .now in let n = c .before .before .before .before .before .before .before .before .before .before .before .before .before .args .n in let u = c .before .before .before .before .before .before .before .before .before .before .before .before .before .args .table .now in let k = c .before .before .before .before .before .before .before .before .before .before .before .before .before .args .c in let x = c .before .before .before .before .before .before .before .before .before .before .before .before .before .args .x in let O = c .before .before .before .before .before .before .before .before .before .before .before .before .before .pre in let K : here s _ comma ≡ true = sym (c .before .before .before .before .before .before .before .before .before .before .is-at .ensures) ∙ not-false _ (c .before .before .before .before .before .before .before .before .before .if1 .left) in let Q = read-is n s (c .before .before .before .before .before .before .member .result) _ (ahead k) _ 0 _ true u _ (c .before .before .before .before .before .before .before .before .ahead .ensures) (c .before .before .d .given .1) (c .before .before .before .before .before .before .member .ensures) in two-read n s u k x O K _ _ _ Q
 
 same-length : tie.Need-same-length
 same-length c = search needs

@@ -3,6 +3,7 @@ use mathlib.Core.Path.{_≡_, sym, _∙_}
 use mathlib.Core.Bool.{true}
 use native.Mathlib.Omega.{arith}
 use borrow.Author.Tests.{not-true, not-false}
+use Rattle.grammar.specs.Newick.{closes}
 use Rattle.reader.specs.Slots.{here}
 use Rattle.reader.proofs.Places.{here-in}
 use Rattle.taxa.specs.Sets.{size}
@@ -41,14 +42,14 @@ add-finish c = search needs
 
 finish-requires : tie.Need-finish-requires
 finish-requires c κs =
-    let s = c .before .before .before .before .before .before .before .before .before .before .args .s .now in let n = c .before .before .before .before .before .before .before .before .before .before .args .n in let u = c .before .before .before .before .before .before .before .before .before .before .args .table .now in let k = c .before .before .before .before .before .before .before .before .before .before .args .c in let x = c .before .before .before .before .before .before .before .before .before .before .args .x in let E : here s _ 41 ≡ true = sym (c .before .before .before .before .before .is-at .ensures) ∙ not-false _ (c .before .before .before .before .if2 .left) in let i = here-in s _ 41 E in omega (arith, i)
+    let s = c .before .before .before .before .before .before .before .before .before .before .args .s .now in let n = c .before .before .before .before .before .before .before .before .before .before .args .n in let u = c .before .before .before .before .before .before .before .before .before .before .args .table .now in let k = c .before .before .before .before .before .before .before .before .before .before .args .c in let x = c .before .before .before .before .before .before .before .before .before .before .args .x in let E : here s _ closes ≡ true = sym (c .before .before .before .before .before .is-at .ensures) ∙ not-false _ (c .before .before .before .before .if2 .left) in let i = here-in s _ closes E in omega (arith, i)
 
 same-length-2 : tie.Need-same-length-2
 same-length-2 c = search needs
 
 returns-3 : tie.Need-returns-3
 returns-3 c =
-    let s = c .before .before .before .before .before .before .before .before .before .before .before .args .s .now in let n = c .before .before .before .before .before .before .before .before .before .before .before .args .n in let u = c .before .before .before .before .before .before .before .before .before .before .before .args .table .now in let k = c .before .before .before .before .before .before .before .before .before .before .before .args .c in let x = c .before .before .before .before .before .before .before .before .before .before .before .args .x in let y = c .before .before .before .before .before .before .before .before .before .before .before .args .y in let T = c .before .before .before .before .before .before .before .before .before .before .before .pre in let a : size 64 (k .used) ≡ n = sym (c .before .before .before .before .before .before .before .before .size .ensures) ∙ c .before .before .before .before .before .before .before .if1 .left in let E : here s _ 41 ≡ true = sym (c .before .before .before .before .before .before .is-at .ensures) ∙ not-false _ (c .before .before .before .before .before .if2 .left) in two-parsed n s u k x y T a E _ (c .before .before .before .join-both .ensures) (c .finish .result) (c .finish .ensures)
+    let s = c .before .before .before .before .before .before .before .before .before .before .before .args .s .now in let n = c .before .before .before .before .before .before .before .before .before .before .before .args .n in let u = c .before .before .before .before .before .before .before .before .before .before .before .args .table .now in let k = c .before .before .before .before .before .before .before .before .before .before .before .args .c in let x = c .before .before .before .before .before .before .before .before .before .before .before .args .x in let y = c .before .before .before .before .before .before .before .before .before .before .before .args .y in let T = c .before .before .before .before .before .before .before .before .before .before .before .pre in let a : size 64 (k .used) ≡ n = sym (c .before .before .before .before .before .before .before .before .size .ensures) ∙ c .before .before .before .before .before .before .before .if1 .left in let E : here s _ closes ≡ true = sym (c .before .before .before .before .before .before .is-at .ensures) ∙ not-false _ (c .before .before .before .before .before .if2 .left) in two-parsed n s u k x y T a E _ (c .before .before .before .join-both .ensures) (c .finish .result) (c .finish .ensures)
 
 pub after-two-spec : {M : Type 1} → statement M
 after-two-spec =

@@ -3,6 +3,7 @@ use mathlib.Core.Path.{_≡_, refl, sym, ap, _∙_}
 use mathlib.Core.Bool.{true}
 use borrow.Author.Tests.{not-true, not-false}
 use Rattle.grammar.specs.Numbers.{join}
+use Rattle.grammar.specs.Newick.{closes}
 use Rattle.reader.specs.Slots.{here}
 use Rattle.reader.proofs.Places.{here-in}
 use Rattle.reader.proofs.StageLaws.{row-first, row-second}
@@ -27,7 +28,7 @@ join-requires-2 c κs =
 
 add-t15 : tie.Need-add-t15
 add-t15 c =
-    let E : here (c .before .before .before .before .before .before .before .before .before .before .before .before .args .s .now) (c .before .before .before .before .before .before .before .before .before .before .before .before .args .c .at) 41 ≡ true = sym (c .before .before .before .before .before .before .before .before .before .is-at .ensures) ∙ not-false _ (c .before .before .before .before .before .before .before .before .if1 .left) in let i = here-in (c .before .before .before .before .before .before .before .before .before .before .before .before .args .s .now) (c .before .before .before .before .before .before .before .before .before .before .before .before .args .c .at) 41 E in let b = c .before .before .before .before .before .before .before .before .before .before .before .before .good .0 in search needs
+    let E : here (c .before .before .before .before .before .before .before .before .before .before .before .before .args .s .now) (c .before .before .before .before .before .before .before .before .before .before .before .before .args .c .at) closes ≡ true = sym (c .before .before .before .before .before .before .before .before .before .is-at .ensures) ∙ not-false _ (c .before .before .before .before .before .before .before .before .if1 .left) in let i = here-in (c .before .before .before .before .before .before .before .before .before .before .before .before .args .s .now) (c .before .before .before .before .before .before .before .before .before .before .before .before .args .c .at) closes E in let b = c .before .before .before .before .before .before .before .before .before .before .before .before .good .0 in search needs
 
 add-t16 : tie.Need-add-t16
 add-t16 c =
@@ -38,7 +39,7 @@ same-length c = search needs
 
 returns-2 : tie.Need-returns-2
 returns-2 c =
-    let E : here (c .before .before .before .before .before .before .before .before .before .before .before .before .args .s .now) (c .before .before .before .before .before .before .before .before .before .before .before .before .args .c .at) 41 ≡ true = sym (c .before .before .before .before .before .before .before .before .before .is-at .ensures) ∙ not-false _ (c .before .before .before .before .before .before .before .before .if1 .left) in record {
+    let E : here (c .before .before .before .before .before .before .before .before .before .before .before .before .args .s .now) (c .before .before .before .before .before .before .before .before .before .before .before .before .args .c .at) closes ≡ true = sym (c .before .before .before .before .before .before .before .before .before .is-at .ensures) ∙ not-false _ (c .before .before .before .before .before .before .before .before .if1 .left) in record {
       closed = E;
       after = refl;
       named = refl;

@@ -5,6 +5,7 @@ use mathlib.Core.Bool.{true}
 use mathlib.Core.Path.{_≡_, refl, sym, _∙_}
 use mathlib.Core.Bool.{true}
 use borrow.Author.Tests.{not-true, not-false}
+use Rattle.grammar.specs.Newick.{opens}
 use Rattle.reader.specs.Slots.{here}
 use Rattle.reader.proofs.StageLaws.{bad-is, read-is}
 use Rattle.reader.proofs.OuterLaws.{no-open}
@@ -22,7 +23,7 @@ returns c =
 
 member-requires : tie.Need-member-requires
 member-requires c κs =
-    let s = c .before .before .before .before .before .args .s .now in let n = c .before .before .before .before .before .args .n in let u = c .before .before .before .before .before .args .table .now in let H : here s 0 40 ≡ true = sym (c .before .before .is-at .ensures) ∙ not-false _ (c .before .if1 .left) in first-ready n s (c .before .before .before .before .before .pre .0) (c .before .before .before .before .before .pre .1) H u (c .before .before .before .before .before .pre .2)
+    let s = c .before .before .before .before .before .args .s .now in let n = c .before .before .before .before .before .args .n in let u = c .before .before .before .before .before .args .table .now in let H : here s 0 opens ≡ true = sym (c .before .before .is-at .ensures) ∙ not-false _ (c .before .if1 .left) in first-ready n s (c .before .before .before .before .before .pre .0) (c .before .before .before .before .before .pre .1) H u (c .before .before .before .before .before .pre .2)
 
 enum-known-p : tie.Need-enum-known-p
 enum-known-p c = search needs
@@ -32,7 +33,7 @@ enum-known-c c = search needs
 
 after-one-requires : tie.Need-after-one-requires
 after-one-requires c κs =
-    let s = c .before .before .before .before .before .before .before .before .before .before .before .before .args .s .now in let n = c .before .before .before .before .before .before .before .before .before .before .before .before .args .n in let u = c .before .before .before .before .before .before .before .before .before .before .before .before .args .table .now in let H : here s 0 40 ≡ true = sym (c .before .before .before .before .before .before .before .before .before .is-at .ensures) ∙ not-false _ (c .before .before .before .before .before .before .before .before .if1 .left) in let Q = read-is n s (c .before .before .before .before .before .before .member .result) (record { at = 1; next = n; used = 0 }) (record { at = 1; next = n; used = 0 }) _ 1 _ true u _ refl (c .before .before .c .given .1) (c .before .before .before .before .before .before .member .ensures) in one-read n s (c .before .before .before .before .before .before .before .before .before .before .before .before .pre .0) (c .before .before .before .before .before .before .before .before .before .before .before .before .pre .1) H u (c .before .before .before .before .before .before .before .before .before .before .before .before .pre .2) _ _ _ Q
+    let s = c .before .before .before .before .before .before .before .before .before .before .before .before .args .s .now in let n = c .before .before .before .before .before .before .before .before .before .before .before .before .args .n in let u = c .before .before .before .before .before .before .before .before .before .before .before .before .args .table .now in let H : here s 0 opens ≡ true = sym (c .before .before .before .before .before .before .before .before .before .is-at .ensures) ∙ not-false _ (c .before .before .before .before .before .before .before .before .if1 .left) in let Q = read-is n s (c .before .before .before .before .before .before .member .result) (record { at = 1; next = n; used = 0 }) (record { at = 1; next = n; used = 0 }) _ 1 _ true u _ refl (c .before .before .c .given .1) (c .before .before .before .before .before .before .member .ensures) in one-read n s (c .before .before .before .before .before .before .before .before .before .before .before .before .pre .0) (c .before .before .before .before .before .before .before .before .before .before .before .before .pre .1) H u (c .before .before .before .before .before .before .before .before .before .before .before .before .pre .2) _ _ _ Q
 
 same-length : tie.Need-same-length
 same-length c = search needs
