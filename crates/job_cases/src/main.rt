@@ -11,6 +11,7 @@ use samples::APART;
 use samples::S;
 use samples::S_TURNED;
 use samples::S_TWICE;
+use samples::byte;
 
 // The job of document 01.
 const DOCUMENT: [u8; 54] = [
@@ -148,15 +149,6 @@ fn run_long(which: u64, words: &[u8], job: &[u8], long: usize) {
     if long <= job.len() {
         count(&job[..long]);
     }
-}
-
-// Puts a byte at a place of a job, where it has room; the place after it.
-fn byte(job: &mut [u8], at: usize, b: u8) -> usize {
-    if at < job.len() {
-        job[at] = b;
-        return at + 1;
-    }
-    at
 }
 
 // Puts bytes from a place on; the place after them.

@@ -9,6 +9,7 @@ use prints::say;
 use reader::Reading;
 use samples::S;
 use samples::S_MOVED;
+use samples::byte;
 use splits::Compared;
 
 // A mark for lent tables, which is no node.
@@ -135,15 +136,6 @@ fn six_taxa() {
     six_apart(two, b"S with two");
     six_apart(both, b"S with two groups");
     against(6, one, &mut [MARK; 18], &S_MOVED, 63, b"S after a move");
-}
-
-// Puts a byte at a place of a text, where it has room; the place after it.
-fn byte(text: &mut [u8], at: usize, b: u8) -> usize {
-    if at < text.len() {
-        text[at] = b;
-        return at + 1;
-    }
-    at
 }
 
 // Puts the label of taxon k; the place after it.

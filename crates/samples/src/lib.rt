@@ -1,7 +1,9 @@
-// The tables of document 01 and broken ones beside them, each once for the
-// programs of cases.
+// The tables of document 01 and broken ones beside them, and how a list of
+// bytes is put together, each once for the programs of cases.
 ghost use mathlib.Core.Path.{_≡_};
+ghost use lib.ListN.{set};
 ghost use Rattle.samples.specs.Along.{alongRows};
+ghost use Rattle.samples.specs.Puts.{placeAfter};
 
 // Tree S of document 01: taxa 0 to 5 along a line.
 pub const S: [u8; 18] = [0, 6, 1, 6, 6, 7, 2, 7, 7, 8, 3, 8, 8, 9, 4, 9, 5, 9];
@@ -47,4 +49,15 @@ pub fn along() -> [u8; 250]
     t[248] = 63;
     t[249] = 125;
     t
+}
+
+// Puts a byte at a place of a list, where it has room; the place after it.
+pub fn byte(list: &mut [u8], at: usize, b: u8) -> usize
+    ensures { λ r. ⌜ (r ≡ placeAfter (now (list .entry)) at) × (now (list .exit) ≡ set (now (list .entry)) at b) ⌝ }
+{
+    if at < list.len() {
+        list[at] = b;
+        return at + 1;
+    }
+    at
 }

@@ -1,3 +1,4 @@
+-- `samples::along` meets its contract. Assumes nothing.
 use native.Mathlib.Omega.{arith}
 use Rattle.samples.specs.Along.{rowsTo}
 use Rattle.samples.proofs.AlongLaws.{rows-none, rows-more, rows-all}
