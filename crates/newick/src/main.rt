@@ -114,9 +114,9 @@ fn answer(input: &[u8]) {
 }
 
 // Answers the input where it was read whole; a failure is said on standard
-// error, since a program has no exit status. At most 65,536 bytes are read. The
-// text of 64 taxa is far shorter, so a longer one is refused at a byte among
-// those that were read.
+// error, since a program has no exit status. At most 65,536 bytes are read.
+// The text of 64 taxa is far shorter, so a longer one is refused at a byte
+// among those that were read.
 fn main() {
     let mut input = io::large_buffer();
     let got = io::read_full(STDIN_FILENO, &mut input);
