@@ -6,5 +6,5 @@ use lib.Dec.{ltb}
 use lib.ListN.{length}
 
 -- The place after it: the next, or the same where the list has no room.
-abbrev pub placeAfter : List ℕ → ℕ → ℕ
-placeAfter l at = cond (ltb at (length l)) (at + 1) at
+abbrev pub nextPlace : List ℕ → ℕ → ℕ
+nextPlace l at = cond (ltb at (length l)) (at + 1) at

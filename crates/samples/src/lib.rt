@@ -3,7 +3,7 @@
 ghost use mathlib.Core.Path.{_≡_};
 ghost use lib.ListN.{set};
 ghost use Rattle.samples.specs.Along.{alongRows};
-ghost use Rattle.samples.specs.Puts.{placeAfter};
+ghost use Rattle.samples.specs.Puts.{nextPlace};
 
 // Tree S of document 01: taxa 0 to 5 along a line.
 pub const S: [u8; 18] = [0, 6, 1, 6, 6, 7, 2, 7, 7, 8, 3, 8, 8, 9, 4, 9, 5, 9];
@@ -53,7 +53,7 @@ pub fn along() -> [u8; 250]
 
 // Puts a byte at a place of a list, where it has room; the place after it.
 pub fn byte(list: &mut [u8], at: usize, b: u8) -> usize
-    ensures { λ r. ⌜ (r ≡ placeAfter (now (list .entry)) at) × (now (list .exit) ≡ set (now (list .entry)) at b) ⌝ }
+    ensures { λ r. ⌜ (r ≡ nextPlace (now (list .entry)) at) × (now (list .exit) ≡ set (now (list .entry)) at b) ⌝ }
 {
     if at < list.len() {
         list[at] = b;
