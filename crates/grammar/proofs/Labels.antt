@@ -20,7 +20,8 @@ labels (suc k) t = times k t + labels k t
 abbrev pub Below : ℕ → Member → Type 0
 Below k t = (x : ℕ) → 0 < times x t → x < k
 
-labels-group : (k : ℕ) (l r : Member) → labels k (group l r) ≡ labels k l + labels k r
+labels-group : (k : ℕ) (l r : Member)
+    → labels k (group l r) ≡ labels k l + labels k r
 unfolding labels times
 labels-group zero l r = refl
 labels-group (suc k) l r = omega (arith, labels-group k l r)
@@ -30,7 +31,9 @@ unfolding labels times
 labels-taxon zero d = ap tally (sym (le-ltb d 0 (omega arith)))
 labels-taxon (suc k) d = go (labels-taxon k d) (eqb d k) refl (ltb d k) refl
   where
-    go : labels k (taxon d) ≡ tally (ltb d k) → (p : Bool) → eqb d k ≡ p → (q : Bool) → ltb d k ≡ q → tally (eqb d k) + labels k (taxon d) ≡ tally (ltb d (suc k))
+    go : labels k (taxon d) ≡ tally (ltb d k) → (p : Bool) → eqb d k ≡ p
+        → (q : Bool) → ltb d k ≡ q
+        → tally (eqb d k) + labels k (taxon d) ≡ tally (ltb d (suc k))
     go h true e true f = absurd (omega (arith, eqb-true d k e, ltb-true d k f))
     go h true e false f = rw (e, h, f, lt-ltb d (suc k) (omega (arith, eqb-true d k e)))
     go h false e true f = rw (e, h, f, lt-ltb d (suc k) (omega (arith, ltb-true d k f)))
@@ -47,19 +50,23 @@ labels-all k (group l r) b =
     ∙ omega (arith, labels-all k l (λ x p. b x (omega (arith, p))), labels-all k r (λ x p. b x (omega (arith, p))))
 
 -- the size of a set with a member's labels besides
-pub size-with : (k : ℕ) (t : Member) (u v : ℕ) → ((x : ℕ) → tally (has v x) ≡ tally (has u x) + times x t) → size k v ≡ size k u + labels k t
+pub size-with : (k : ℕ) (t : Member) (u v : ℕ)
+    → ((x : ℕ) → tally (has v x) ≡ tally (has u x) + times x t)
+    → size k v ≡ size k u + labels k t
 unfolding size labels
 size-with zero t u v h = refl
 size-with (suc k) t u v h = omega (arith, h k, size-with k t u v h)
 
 -- where each below k is a label once
-labels-full : (k : ℕ) (t : Member) → ((x : ℕ) → x < k → times x t ≡ 1) → labels k t ≡ k
+labels-full : (k : ℕ) (t : Member) → ((x : ℕ) → x < k → times x t ≡ 1)
+    → labels k t ≡ k
 unfolding labels
 labels-full zero t h = refl
 labels-full (suc k) t h = omega (arith, h k (omega arith), labels-full k t (λ x p. h x (omega (arith, p))))
 
 -- and the other way round
-pub full-labels : (k : ℕ) (t : Member) → ((x : ℕ) → times x t ≤ 1) → labels k t ≡ k → (x : ℕ) → x < k → times x t ≡ 1
+pub full-labels : (k : ℕ) (t : Member) → ((x : ℕ) → times x t ≤ 1)
+    → labels k t ≡ k → (x : ℕ) → x < k → times x t ≡ 1
 unfolding labels
 full-labels zero t h e x p = absurd (omega (arith, p))
 full-labels (suc k) t h e x p = go (full-labels k t h (omega (arith, e, h k, few k))) (eqb x k) refl
@@ -68,12 +75,14 @@ full-labels (suc k) t h e x p = go (full-labels k t h (omega (arith, e, h k, few
     few zero = omega arith
     few (suc j) = omega (arith, few j, h j)
 
-    go : ((x : ℕ) → x < k → times x t ≡ 1) → (b : Bool) → eqb x k ≡ b → times x t ≡ 1
+    go : ((x : ℕ) → x < k → times x t ≡ 1) → (b : Bool) → eqb x k ≡ b
+        → times x t ≡ 1
     go ih true q = ap (λ (y : ℕ). times y t) (eqb-true x k q) ∙ omega (arith, e, h k, few k)
     go ih false q = ih x (lt-of-le-ne (omega (arith, p)) (eqb-false x k q))
 
 -- a member with each of 0 to n-1 once has n - 1 groups
-pub total : (n : ℕ) (t : Member) → ((x : ℕ) → times x t ≡ tally (ltb x n)) → suc (groups t) ≡ n
+pub total : (n : ℕ) (t : Member) → ((x : ℕ) → times x t ≡ tally (ltb x n))
+    → suc (groups t) ≡ n
 total n t h =
     sym (labels-all n t (λ x p. low x p (ltb x n) refl))
     ∙ labels-full n t (λ x p. h x ∙ ap tally (lt-ltb x n p))
@@ -86,10 +95,12 @@ total n t h =
         zero-of e = ap tally e
 
 -- a tree of n taxa has n - 2 groups inside two members, n - 3 inside three
-pub two-total : (n : ℕ) (a b : Member) → EachOnce n (two a b) → groups a + groups b + 2 ≡ n
+pub two-total : (n : ℕ) (a b : Member) → EachOnce n (two a b)
+    → groups a + groups b + 2 ≡ n
 unfolding timesIn times groups
 two-total n a b h = omega (arith, total n (group a b) h)
 
-pub three-total : (n : ℕ) (a b c : Member) → EachOnce n (three a b c) → groups a + groups b + groups c + 3 ≡ n
+pub three-total : (n : ℕ) (a b c : Member) → EachOnce n (three a b c)
+    → groups a + groups b + groups c + 3 ≡ n
 unfolding timesIn times groups
 three-total n a b c h = omega (arith, total n (group (group a b) c) h)

@@ -33,7 +33,8 @@ low-some m v k p h = go (ltb v m) refl
 pub low-next : (m v : ℕ) → low (suc m) v ≡ low m v + tally (eqb m v)
 low-next m v = go (either (eqb m v)) (either (ltb v m))
   where
-    go : (eqb m v ≡ true) ⊎ (eqb m v ≡ false) → (ltb v m ≡ true) ⊎ (ltb v m ≡ false)
+    go : (eqb m v ≡ true) ⊎ (eqb m v ≡ false)
+        → (ltb v m ≡ true) ⊎ (ltb v m ≡ false)
         → low (suc m) v ≡ low m v + tally (eqb m v)
     go (inl e) b =
         let d : m ≡ v = eqb-true m v e in

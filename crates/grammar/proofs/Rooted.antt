@@ -23,7 +23,8 @@ abbrev pub under : List ℕ → ℕ → ℕ → ℕ
 under t p m = count (λ r. eqb (hi t r) p) m
 
 -- no row has p as its larger end
-pub under-none : (t : List ℕ) (p m : ℕ) → ((r : ℕ) → r < m → hi t r ≡ p → ⊥) → under t p m ≡ 0
+pub under-none : (t : List ℕ) (p m : ℕ) → ((r : ℕ) → r < m → hi t r ≡ p → ⊥)
+    → under t p m ≡ 0
 under-none t p m h = omega (arith, some)
   where
     some : 0 < under t p m → ⊥
@@ -34,12 +35,15 @@ under-none t p m h = omega (arith, some)
 pub record Rooted (n : ℕ) (t : List ℕ) : Type 0 where
   pub len : length t ≡ 2 * rows n
   pub own : (r : ℕ) → r < rows n → lo t r ≡ r
-  pub above : (r : ℕ) → r < rows n → (r < hi t r) × (n ≤ hi t r) × (hi t r < nodes n)
-  pub twice : (p : ℕ) → n ≤ p → under t p (rows n) ≡ 2 * low (rows n) p + 3 * tally (eqb (rows n) p)
+  pub above : (r : ℕ) → r < rows n
+      → (r < hi t r) × (n ≤ hi t r) × (hi t r < nodes n)
+  pub twice : (p : ℕ) → n ≤ p
+      → under t p (rows n) ≡ 2 * low (rows n) p + 3 * tally (eqb (rows n) p)
 
 module _ (n : ℕ) (t : List ℕ) (big : 4 ≤ n) (w : Rooted n t) where
   -- the rows at a node: its own, and those below it
-  at-node : (v k : ℕ) → k ≤ rows n → count (λ r. touches t r v) k ≡ low k v + under t v k
+  at-node : (v k : ℕ) → k ≤ rows n
+      → count (λ r. touches t r v) k ≡ low k v + under t v k
   unfolding count
   at-node v zero h = omega (arith, low-out 0 v (omega arith))
   at-node v (suc k) h =

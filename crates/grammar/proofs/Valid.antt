@@ -26,7 +26,8 @@ within (group l r) k w =
     put (node r j) p (put (node l k) p (within r j (within l k w)))
 
 -- written, they are the rows that withRows writes
-within-joins : (m : Member) (k : ℕ) (w : Writes) (t : List ℕ) → joins (within m k w) t ≡ withRows m k (joins w t)
+within-joins : (m : Member) (k : ℕ) (w : Writes) (t : List ℕ)
+    → joins (within m k w) t ≡ withRows m k (joins w t)
 unfolding within withRows joins
 within-joins (taxon d) k w t = refl
 within-joins (group l r) k w t =
@@ -64,7 +65,8 @@ within-seconds (group l r) k w p =
     omega (arith, last, low-next (j + groups r) p, within-seconds r j (within l k w) p, within-seconds l k w p)
 
 -- its own node comes before any that closes after it
-pub node-lt : (n : ℕ) (m : Member) (k : ℕ) → Below n m → n ≤ k → node m k < k + groups m
+pub node-lt : (n : ℕ) (m : Member) (k : ℕ) → Below n m → n ≤ k
+    → node m k < k + groups m
 unfolding node groups times
 node-lt n (taxon d) k b h =
     let here : 0 < times d (taxon d) = rw (eq-eqb d d refl) (omega arith) in
@@ -72,12 +74,14 @@ node-lt n (taxon d) k b h =
 node-lt n (group l r) k b h = omega arith
 
 -- the rows of a member leave the table its length
-pub length-rows : (a : Member) (k : ℕ) (t : List ℕ) → length (withRows a k t) ≡ length t
+pub length-rows : (a : Member) (k : ℕ) (t : List ℕ)
+    → length (withRows a k t) ≡ length t
 unfolding joins
 length-rows a k t = ap length (sym (within-joins a k none t)) ∙ length-joins (within a k none) t
 
 -- so every row of a member goes to a larger node, which is no taxon
-within-fit : (n m : ℕ) (a : Member) (k : ℕ) (w : Writes) → Below n a → n ≤ k → k + groups a ≤ m
+within-fit : (n m : ℕ) (a : Member) (k : ℕ) (w : Writes) → Below n a → n ≤ k
+    → k + groups a ≤ m
     → Fit n m w → Fit n m (within a k w)
 unfolding within Fit groups times
 within-fit n m (taxon d) k w b h l f = f
@@ -132,7 +136,8 @@ table-length n o = ap length (list-table n o) ∙ length-written n (listed n o)
 
 -- ---- the rows make up a whole table
 -- the larger of two outermost members is the last node
-pub last-larger : (n : ℕ) (a b : Member) → 4 ≤ n → Below n a → Below n b → groups a + groups b + 2 ≡ n
+pub last-larger : (n : ℕ) (a b : Member) → 4 ≤ n → Below n a → Below n b
+    → groups a + groups b + 2 ≡ n
     → ((node a n < node b (n + groups a)) × (node b (n + groups a) ≡ rows n))
     ⊎ ((node b (n + groups a) < node a n) × (node a n ≡ rows n))
 unfolding node groups times
@@ -141,7 +146,8 @@ last-larger n (group l r) (taxon d) big ba bb s = inr (omega (arith, node-lt n (
 last-larger n (taxon c) (taxon d) big ba bb s = absurd (omega arith)
 
 -- two members joined by a row from the one with node x to the last
-two-whole : (n : ℕ) (a b : Member) (x : ℕ) → 4 ≤ n → Below n a → Below n b → EachOnce n (two a b) → x < rows n
+two-whole : (n : ℕ) (a b : Member) (x : ℕ) → 4 ≤ n → Below n a → Below n b
+    → EachOnce n (two a b) → x < rows n
     → ((v : ℕ) → tally (eqb x v) + tally (eqb (rows n) v)
     ≡ tally (eqb (node a n) v) + tally (eqb (node b (n + groups a)) v))
     → Whole n (put x (rows n) (within b (n + groups a) (within a n none)))
@@ -162,7 +168,8 @@ two-whole n a b x big ba bb each l ends =
     }
 
 -- three members, each joined to the last node
-three-whole : (n : ℕ) (a b c : Member) → 4 ≤ n → Below n a → Below n b → Below n c → EachOnce n (three a b c)
+three-whole : (n : ℕ) (a b c : Member) → 4 ≤ n → Below n a → Below n b
+    → Below n c → EachOnce n (three a b c)
     → Whole n (listed n (three a b c))
 unfolding firsts seconds Fit timesIn listed
 three-whole n a b c big ba bb bc each =
@@ -188,7 +195,8 @@ three-whole n a b c big ba bb bc each =
     }
 
 -- the rows of a tree make up a whole table
-list-whole : (n : ℕ) (o : Outermost) → 4 ≤ n → EachOnce n o → Whole n (listed n o)
+list-whole : (n : ℕ) (o : Outermost) → 4 ≤ n → EachOnce n o
+    → Whole n (listed n o)
 unfolding timesIn listed
 list-whole n (two a b) big each = go (last-larger n a b big ba bb (two-total n a b each))
   where
@@ -210,7 +218,8 @@ list-whole n (two a b) big each = go (last-larger n a b big ba bb (two-total n a
     bb : Below n b
     bb v p = low-some n v (times v b) p (omega (arith, each v))
 
-    go : ((x < y) × (y ≡ rows n)) ⊎ ((y < x) × (x ≡ rows n)) → Whole n (put (smaller x y) (larger x y) w)
+    go : ((x < y) × (y ≡ rows n)) ⊎ ((y < x) × (x ≡ rows n))
+        → Whole n (put (smaller x y) (larger x y) w)
     go (inl (l, e)) =
         let h : Whole n (put x (rows n) w)
         = two-whole n a b x big ba bb each (omega arith)
@@ -228,7 +237,8 @@ list-whole n (three a b c) big each =
     each
 
 -- a tree's table is valid
-pub table-valid : (n : ℕ) (o : Outermost) → 4 ≤ n → EachOnce n o → Valid n (table n o)
+pub table-valid : (n : ℕ) (o : Outermost) → 4 ≤ n → EachOnce n o
+    → Valid n (table n o)
 table-valid n o big each =
     subst (Valid n) (sym (list-table n o))
     (rooted-valid n (joins (listed n o) (blank n)) big (whole-rooted n (listed n o) big (list-whole n o big each)))

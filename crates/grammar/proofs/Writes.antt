@@ -45,7 +45,8 @@ module _ (t : List ℕ) (v p : ℕ) where
 
 -- a test like another save at v, where the other fails, passes once more if
 -- at v
-count-one : (P Q : ℕ → Bool) (v m : ℕ) → v < m → P v ≡ false → ((r : ℕ) → (r ≡ v → ⊥) → Q r ≡ P r)
+count-one : (P Q : ℕ → Bool) (v m : ℕ) → v < m → P v ≡ false
+    → ((r : ℕ) → (r ≡ v → ⊥) → Q r ≡ P r)
     → count Q m ≡ tally (Q v) + count P m
 count-one P Q v m l p h = go (Q v) refl
   where
@@ -63,7 +64,8 @@ count-one P Q v m l p h = go (Q v) refl
         omega (arith, count-drop Q v m q l)
 
 -- a row written over a blank one is one more at the node it goes to
-under-join : (t : List ℕ) (v q p m : ℕ) → 0 < p → v < m → 2 * v + 1 < length t → hi t v ≡ 0
+under-join : (t : List ℕ) (v q p m : ℕ) → 0 < p → v < m → 2 * v + 1 < length t
+    → hi t v ≡ 0
     → under (join v q t) p m ≡ tally (eqb q p) + under t p m
 under-join t v q p m pos l h e =
     let none : eqb (hi t v) p ≡ false = ne-eqb (hi t v) p (λ d. omega arith) in
@@ -102,12 +104,14 @@ length-joins none t = refl
 length-joins (put v p w) t = length-join (joins w t) v p ∙ length-joins w t
 
 -- a row not written stays
-hi-kept : (w : Writes) (t : List ℕ) (v : ℕ) → firsts v w ≡ 0 → hi (joins w t) v ≡ hi t v
+hi-kept : (w : Writes) (t : List ℕ) (v : ℕ) → firsts v w ≡ 0
+    → hi (joins w t) v ≡ hi t v
 unfolding joins firsts
 hi-kept none t v h = refl
 hi-kept (put x p w) t v h = go (either (eqb x v)) (hi-kept w t v (omega arith))
   where
-    go : (eqb x v ≡ true) ⊎ (eqb x v ≡ false) → hi (joins w t) v ≡ hi t v → hi (join x p (joins w t)) v ≡ hi t v
+    go : (eqb x v ≡ true) ⊎ (eqb x v ≡ false) → hi (joins w t) v ≡ hi t v
+        → hi (join x p (joins w t)) v ≡ hi t v
     go (inl e) ih = absurd (omega (arith, h, ap tally e))
     go (inr e) ih = hi-other (joins w t) x p v (λ d. eqb-false x v e (sym d)) ∙ ih
 
@@ -116,7 +120,8 @@ record Row (n m v : ℕ) (t : List ℕ) : Type 0 where
   own : lo t v ≡ v
   above : (v < hi t v) × (n ≤ hi t v) × (hi t v < m)
 
-row-written : (n m : ℕ) (w : Writes) (t : List ℕ) (v : ℕ) → Fit n m w → 2 * v + 1 < length t → 0 < firsts v w
+row-written : (n m : ℕ) (w : Writes) (t : List ℕ) (v : ℕ) → Fit n m w
+    → 2 * v + 1 < length t → 0 < firsts v w
     → Row n m v (joins w t)
 unfolding joins firsts Fit
 row-written n m none t v f h l = absurd (omega arith)
@@ -128,7 +133,8 @@ row-written n m (put x p w) t v f h l = go (either (eqb x v)) (λ k. row-written
     long : 2 * v + 1 < length u
     long = omega (arith, length-joins w t)
 
-    go : (eqb x v ≡ true) ⊎ (eqb x v ≡ false) → (0 < firsts v w → Row n m v u) → Row n m v (join x p u)
+    go : (eqb x v ≡ true) ⊎ (eqb x v ≡ false) → (0 < firsts v w → Row n m v u)
+        → Row n m v (join x p u)
     go (inl e) ih =
         let d : v ≡ x = sym (eqb-true x v e) in
         let k : 2 * x + 1 < length u = omega (arith, long) in
@@ -165,14 +171,16 @@ pub blank-length : (n : ℕ) → length (blank n) ≡ 2 * rows n
 blank-length n = length-replicate (2 * rows n) 0
 
 -- a written table has the length of a blank one
-pub length-written : (n : ℕ) (w : Writes) → length (joins w (blank n)) ≡ 2 * rows n
+pub length-written : (n : ℕ) (w : Writes)
+    → length (joins w (blank n)) ≡ 2 * rows n
 length-written n w = length-joins w (blank n) ∙ blank-length n
 
 -- a blank row ends at 0, in the table or beyond it
 blank-zero : (n r : ℕ) → hi (blank n) r ≡ 0
 blank-zero n r = go (either (ltb (2 * r + 1) (2 * rows n)))
   where
-    go : (ltb (2 * r + 1) (2 * rows n) ≡ true) ⊎ (ltb (2 * r + 1) (2 * rows n) ≡ false) → hi (blank n) r ≡ 0
+    go : (ltb (2 * r + 1) (2 * rows n) ≡ true) ⊎ (ltb (2 * r + 1) (2 * rows n) ≡ false)
+        → hi (blank n) r ≡ 0
     go (inl e) = getD-replicate (2 * rows n) (2 * r + 1) 0 0 (ltb-true (2 * r + 1) (2 * rows n) e)
     go (inr e) =
         List·getD-eq-default (blank n) 0 (omega (arith, blank-length n, ltb-false (2 * r + 1) (2 * rows n) e))
@@ -182,10 +190,12 @@ blank-zero n r = go (either (ltb (2 * r + 1) (2 * rows n)))
 pub record Whole (n : ℕ) (w : Writes) : Type 0 where
   pub fit : Fit n (nodes n) w
   pub once : (v : ℕ) → firsts v w ≡ low (rows n) v
-  pub twice : (p : ℕ) → seconds p w + 2 * low n p ≡ 2 * low (rows n) p + 3 * tally (eqb (rows n) p)
+  pub twice : (p : ℕ)
+      → seconds p w + 2 * low n p ≡ 2 * low (rows n) p + 3 * tally (eqb (rows n) p)
 
 -- then the table has each node's row and each node's number of rows
-pub whole-rooted : (n : ℕ) (w : Writes) → 4 ≤ n → Whole n w → Rooted n (joins w (blank n))
+pub whole-rooted : (n : ℕ) (w : Writes) → 4 ≤ n → Whole n w
+    → Rooted n (joins w (blank n))
 whole-rooted n w big h =
     let t = joins w (blank n) in
     let len = blank-length n in

@@ -99,7 +99,8 @@ module _ (s : List ℕ) where
           is = one-byte s e ∙ ap (λ (b : ℕ). b ∷ []) (value-byte s 0 few .1) ∙ sym (one-digit (valueAt s 0) few);
         })
 
-    pub two-line : length s ≡ 2 → valueAt s 1 < 10 → LineSays s (10 * valueAt s 0 + valueAt s 1)
+    pub two-line : length s ≡ 2 → valueAt s 1 < 10
+        → LineSays s (10 * valueAt s 0 + valueAt s 1)
     two-line e h =
         let m = 10 * valueAt s 0 + valueAt s 1 in
         let a : valueAt s 0 ≡ m / 10 = omega (arith, h) in

@@ -21,7 +21,8 @@ use Rattle.grammar.proofs.Labels.{Below, labels-all, full-labels, size-with, to
 use Rattle.reader.specs.Slots.{mark, Within, Fits, allowed, Next, Over}
 
 -- ---- tests as numbers
-tally-or : (p q : Bool) → tally p + tally q ≤ 1 → tally (p || q) ≡ tally p + tally q
+tally-or : (p q : Bool) → tally p + tally q ≤ 1
+    → tally (p || q) ≡ tally p + tally q
 tally-or true true h = absurd (omega arith)
 tally-or true false h = refl
 tally-or false true h = refl
@@ -37,7 +38,8 @@ tally-zero false h = refl
 
 -- ---- the taxa of a member
 -- its members, where no label is twice
-has-mark : (t : Member) (u : ℕ) → ((x : ℕ) → tally (has u x) + times x t ≤ 1) → (x : ℕ) → tally (has (mark t u) x) ≡ tally (has u x) + times x t
+has-mark : (t : Member) (u : ℕ) → ((x : ℕ) → tally (has u x) + times x t ≤ 1)
+    → (x : ℕ) → tally (has (mark t u) x) ≡ tally (has u x) + times x t
 unfolding mark times
 has-mark (taxon d) u h x = ap tally (has-add u d x) ∙ tally-or (has u x) (eqb d x) (h x)
 has-mark (group l r) u h x =
@@ -55,17 +57,21 @@ module _ (n u m : ℕ) (o : Bool) where
   pub below : (t : Member) → n ≤ 64 → Fits n u m o t → Below 100 t
   below t few f x p = omega (arith, few, below-n t f x p)
 
-  pub marked : (t : Member) → Fits n u m o t → (x : ℕ) → tally (has (mark t u) x) ≡ tally (has u x) + times x t
+  pub marked : (t : Member) → Fits n u m o t → (x : ℕ)
+      → tally (has (mark t u) x) ≡ tally (has u x) + times x t
   marked t f = has-mark t u (λ x. omega (arith, f .once x, tally-most (ltb x n)))
 
-  pub mark-within : (t : Member) → Fits n u m o t → (x : ℕ) → tally (has (mark t u) x) ≤ tally (ltb x n)
+  pub mark-within : (t : Member) → Fits n u m o t → (x : ℕ)
+      → tally (has (mark t u) x) ≤ tally (ltb x n)
   mark-within t f x = omega (arith, marked t f x, f .once x)
 
-  pub mark-size : (t : Member) → Fits n u m o t → size n (mark t u) ≡ size n u + suc (groups t)
+  pub mark-size : (t : Member) → Fits n u m o t
+      → size n (mark t u) ≡ size n u + suc (groups t)
   mark-size t f = size-with n t u (mark t u) (marked t f) ∙ ap (λ (k : ℕ). size n u + k) (labels-all n t (below-n t f))
 
   -- ---- the members of a group
-  pub fits-left : (l r : Member) → Fits n u m o (group l r) → Fits n u (suc m) true l
+  pub fits-left : (l r : Member) → Fits n u m o (group l r)
+      → Fits n u (suc m) true l
   unfolding times groups
   fits-left l r f = record {
     once = λ x. omega (arith, f .once x);
@@ -73,7 +79,8 @@ module _ (n u m : ℕ) (o : Bool) where
     full = λ e. absurd (true≢false e);
   }
 
-  pub fits-right : (l r : Member) → Fits n u m o (group l r) → Fits n (mark l u) m o r
+  pub fits-right : (l r : Member) → Fits n u m o (group l r)
+      → Fits n (mark l u) m o r
   unfolding times groups
   fits-right l r f =
       let L = fits-left l r f in
@@ -86,7 +93,8 @@ module _ (n u m : ℕ) (o : Bool) where
       }
 
 module _ (n u m : ℕ) (o : Bool) where
-  pub fits-group : (l r : Member) → Fits n u (suc m) true l → Fits n (mark l u) m o r → Fits n u m o (group l r)
+  pub fits-group : (l r : Member) → Fits n u (suc m) true l
+      → Fits n (mark l u) m o r → Fits n u m o (group l r)
   unfolding times groups
   fits-group l r f g =
       let M = marked n u (suc m) true l f in
@@ -98,7 +106,8 @@ module _ (n u m : ℕ) (o : Bool) where
       }
 
   -- ---- a taxon
-  fits-taxon : (d : ℕ) → Within n u → size n u + m < n → d < n → has u d ≡ false → (o || eqb (suc (size n u)) n) ≡ true → Fits n u m o (taxon d)
+  fits-taxon : (d : ℕ) → Within n u → size n u + m < n → d < n → has u d ≡ false
+      → (o || eqb (suc (size n u)) n) ≡ true → Fits n u m o (taxon d)
   unfolding times groups
   fits-taxon d w h l f e = record {
     once = λ x. one x (eqb d x) refl;
@@ -106,7 +115,8 @@ module _ (n u m : ℕ) (o : Bool) where
     full = λ p. omega (arith, eqb-true (suc (size n u)) n (sym (ap (λ (b : Bool). b || eqb (suc (size n u)) n) p) ∙ e));
   }
     where
-      one : (x : ℕ) (b : Bool) → eqb d x ≡ b → tally (has u x) + tally (eqb d x) ≤ tally (ltb x n)
+      one : (x : ℕ) (b : Bool) → eqb d x ≡ b
+          → tally (has u x) + tally (eqb d x) ≤ tally (ltb x n)
       one x true q =
           let z : has u x ≡ false = ap (has u) (sym (eqb-true d x q)) ∙ f in
           let y : ltb x n ≡ true = lt-ltb x n (omega (arith, l, eqb-true d x q)) in
@@ -114,14 +124,16 @@ module _ (n u m : ℕ) (o : Bool) where
       one x false q = rw q (omega (arith, w x))
 
   -- the taxa that are allowed are those that fit
-  pub allowed-fits : (d : ℕ) → Within n u → size n u + m < n → has (allowed n u o) d ≡ true → Fits n u m o (taxon d)
+  pub allowed-fits : (d : ℕ) → Within n u → size n u + m < n
+      → has (allowed n u o) d ≡ true → Fits n u m o (taxon d)
   allowed-fits d w h e = go (o || eqb (suc (size n u)) n) refl e
     where
       not-has : (b : Bool) → not b ≡ true → b ≡ false
       not-has true q = sym q
       not-has false q = refl
 
-      go : (b : Bool) → (o || eqb (suc (size n u)) n) ≡ b → has (pick b (less (full n) u) 0) d ≡ true → Fits n u m o (taxon d)
+      go : (b : Bool) → (o || eqb (suc (size n u)) n) ≡ b
+          → has (pick b (less (full n) u) 0) d ≡ true → Fits n u m o (taxon d)
       go true p q =
           let both : (has (full n) d && not (has u d)) ≡ true = sym (has-less (full n) u d) ∙ q in
           let low : d < n = ltb-true d n (sym (has-ones n d) ∙ and-left (has (full n) d) (not (has u d)) both) in
@@ -131,11 +143,13 @@ module _ (n u m : ℕ) (o : Bool) where
   pub allowed-low : (d : ℕ) → has (allowed n u o) d ≡ true → d < n
   allowed-low d e = go (o || eqb (suc (size n u)) n) refl e
     where
-      go : (b : Bool) → (o || eqb (suc (size n u)) n) ≡ b → has (pick b (less (full n) u) 0) d ≡ true → d < n
+      go : (b : Bool) → (o || eqb (suc (size n u)) n) ≡ b
+          → has (pick b (less (full n) u) 0) d ≡ true → d < n
       go true p q = ltb-true d n (sym (has-ones n d) ∙ and-left (has (full n) d) (not (has u d)) (sym (has-less (full n) u d) ∙ q))
       go false p q = absurd (true≢false (sym q ∙ has-none d))
 
-  pub fits-allowed : (d : ℕ) → Fits n u m o (taxon d) → has (allowed n u o) d ≡ true
+  pub fits-allowed : (d : ℕ) → Fits n u m o (taxon d)
+      → has (allowed n u o) d ≡ true
   unfolding times groups
   fits-allowed d f =
       let self : tally (eqb d d) ≡ 1 = ap tally (eq-eqb d d refl) in
@@ -148,12 +162,14 @@ module _ (n u m : ℕ) (o : Bool) where
       one true h = refl
       one false h = absurd (omega arith)
 
-      go : (b : Bool) → o ≡ b → has (less (full n) u) d ≡ true → has (allowed n u o) d ≡ true
+      go : (b : Bool) → o ≡ b → has (less (full n) u) d ≡ true
+          → has (allowed n u o) d ≡ true
       go true e q = rw e q
       go false e q = rw (e, eq-eqb (suc (size n u)) n (omega (arith, f .full e))) q
 
 -- ---- what fits a slot fits one that asks for less
-pub fits-loose : (n u m k : ℕ) (o : Bool) (t : Member) → k ≤ m → Fits n u m o t → Fits n u k true t
+pub fits-loose : (n u m k : ℕ) (o : Bool) (t : Member) → k ≤ m → Fits n u m o t
+    → Fits n u k true t
 fits-loose n u m k o t h f = record {
   once = f .once;
   room = omega (arith, f .room, h);
@@ -161,7 +177,8 @@ fits-loose n u m k o t h f = record {
 }
 
 -- ---- all n taxa
-pub fits-each : (n : ℕ) (t : Member) → Fits n 0 0 false t → (x : ℕ) → times x t ≡ tally (ltb x n)
+pub fits-each : (n : ℕ) (t : Member) → Fits n 0 0 false t → (x : ℕ)
+    → times x t ≡ tally (ltb x n)
 fits-each n t f x = go (ltb x n) refl
   where
     le : (y : ℕ) → times y t ≤ tally (ltb y n)
@@ -173,7 +190,8 @@ fits-each n t f x = go (ltb x n) refl
         (labels-all n t (λ y p. below-n n 0 0 false t f y p) ∙ omega (arith, f .full refl, size-none n)) x (ltb-true x n e)
     go false e = omega (arith, rw e at (le x))
 
-pub each-fits : (n : ℕ) (t : Member) → ((x : ℕ) → times x t ≡ tally (ltb x n)) → Fits n 0 0 false t
+pub each-fits : (n : ℕ) (t : Member) → ((x : ℕ) → times x t ≡ tally (ltb x n))
+    → Fits n 0 0 false t
 each-fits n t h = record {
   once = λ x. omega (arith, h x, ap tally (has-none x));
   room = omega (arith, total n t h, size-none n);
@@ -186,7 +204,8 @@ unfolding size
 size-wide n zero u h w = let z : 0 ≡ n = omega (arith, h) in ap (λ (i : ℕ). size i u) z
 size-wide n (suc k) u h w = go (eqb n (suc k)) refl (size-wide n k u)
   where
-    go : (b : Bool) → eqb n (suc k) ≡ b → (n ≤ k → Within n u → size k u ≡ size n u) → size (suc k) u ≡ size n u
+    go : (b : Bool) → eqb n (suc k) ≡ b
+        → (n ≤ k → Within n u → size k u ≡ size n u) → size (suc k) u ≡ size n u
     go true e ih = ap (λ (i : ℕ). size i u) (sym (eqb-true n (suc k) e))
     go false e ih =
         let l : n < suc k = lt-of-le-ne h (eqb-false n (suc k) e) in
@@ -198,21 +217,24 @@ unfolding size
 free zero u h = absurd (omega arith)
 free (suc k) u h = go (free k u) (has u k) refl
   where
-    go : (size k u < k → (d : ℕ) × (d < k) × (has u d ≡ false)) → (b : Bool) → has u k ≡ b → (d : ℕ) × (d < suc k) × (has u d ≡ false)
+    go : (size k u < k → (d : ℕ) × (d < k) × (has u d ≡ false)) → (b : Bool)
+        → has u k ≡ b → (d : ℕ) × (d < suc k) × (has u d ≡ false)
     go ih false e = (k, omega arith, e)
     go ih true e =
         let l : tally true + size k u < suc k = subst (λ (b : Bool). tally b + size k u < suc k) e h in
         let q = ih (omega (arith, l)) in
         (q .0, omega (arith, q .1), q .2)
 
-fill-by : (j n u m : ℕ) (o : Bool) → n ≤ size n u + j → Within n u → size n u + m < n → (o ≡ false → m ≡ 0) → (t : Member) × Fits n u m o t
+fill-by : (j n u m : ℕ) (o : Bool) → n ≤ size n u + j → Within n u
+    → size n u + m < n → (o ≡ false → m ≡ 0) → (t : Member) × Fits n u m o t
 unfolding mark groups
 fill-by zero n u m o g w h z = absurd (omega arith)
 fill-by (suc j) n u m true g w h z = let f = free n u (omega arith) in (taxon (f .0), fits-taxon n u m true (f .0) w h (f .1) (f .2) refl)
 fill-by (suc j) n u m false g w h z = go (fill-by j) (free n u (omega arith)) (eqb (suc (size n u)) n) refl
   where
     go : ((n u m : ℕ) (o : Bool) → n ≤ size n u + j → Within n u → size n u + m < n → (o ≡ false → m ≡ 0) → (t : Member) × Fits n u m o t)
-        → (d : ℕ) × (d < n) × (has u d ≡ false) → (b : Bool) → eqb (suc (size n u)) n ≡ b → (t : Member) × Fits n u m false t
+        → (d : ℕ) × (d < n) × (has u d ≡ false) → (b : Bool)
+        → eqb (suc (size n u)) n ≡ b → (t : Member) × Fits n u m false t
     go ih f true q = (taxon (f .0), fits-taxon n u m false (f .0) w h (f .1) (f .2) q)
     go ih f false q =
         let m0 : m ≡ 0 = z refl in
@@ -222,7 +244,8 @@ fill-by (suc j) n u m false g w h z = go (fill-by j) (free n u (omega arith)) (e
         let rest = ih n (add u (f .0)) m false (omega (arith, g, s)) (mark-within n u (suc m) true (taxon (f .0)) one) (omega (arith, s, r, m0)) z in
         (group (taxon (f .0)) (rest .0), fits-group n u m false (taxon (f .0)) (rest .0) one (rest .1))
 
-pub fill : (n u m : ℕ) (o : Bool) → Within n u → size n u + m < n → (o ≡ false → m ≡ 0) → (t : Member) × Fits n u m o t
+pub fill : (n u m : ℕ) (o : Bool) → Within n u → size n u + m < n
+    → (o ≡ false → m ≡ 0) → (t : Member) × Fits n u m o t
 fill n u m o = fill-by n n u m o (omega arith)
 
 -- ---- a text settles its member
@@ -236,10 +259,12 @@ pub nil-cons : {a : ℕ} {u : List ℕ} → _≡_ {A = List ℕ} [] (a ∷ u) �
 nil-cons {a} {u} e = let z : _≡_ {A = ℕ} 0 1 = cc in omega arith
 
 -- a label begins with a digit
-pub label-first : (d : ℕ) (w : List ℕ) → d < 100 → (b : ℕ) × (v : List ℕ) × (decimal d ++ w ≡ b ∷ v) × (48 ≤ b)
+pub label-first : (d : ℕ) (w : List ℕ) → d < 100
+    → (b : ℕ) × (v : List ℕ) × (decimal d ++ w ≡ b ∷ v) × (48 ≤ b)
 label-first d w h = go (ltb d 10) refl
   where
-    go : (p : Bool) → ltb d 10 ≡ p → (b : ℕ) × (v : List ℕ) × (decimal d ++ w ≡ b ∷ v) × (48 ≤ b)
+    go : (p : Bool) → ltb d 10 ≡ p
+        → (b : ℕ) × (v : List ℕ) × (decimal d ++ w ≡ b ∷ v) × (48 ≤ b)
     go true e = (48 + d, w, ap (λ (l : List ℕ). l ++ w) (one-digit d (ltb-true d 10 e)), omega arith)
     go false e = (48 + d / 10, (48 + d % 10) ∷ w, ap (λ (l : List ℕ). l ++ w) (two-digits d (ltb-false d 10 e) h), omega arith)
 
@@ -252,7 +277,8 @@ pub over-stop : (t : Member) (w : List ℕ) → Stop w → Over t w
 over-stop (taxon d) w s = λ p q. s
 over-stop (group l r) w s = tt
 
-pub settled : (t t′ : Member) (w w′ : List ℕ) → Below 100 t → Below 100 t′ → Over t w → Stop w′ → text t w ≡ text t′ w′ → (t ≡ t′) × (w ≡ w′)
+pub settled : (t t′ : Member) (w w′ : List ℕ) → Below 100 t → Below 100 t′
+    → Over t w → Stop w′ → text t w ≡ text t′ w′ → (t ≡ t′) × (w ≡ w′)
 unfolding text times
 settled (taxon d) (taxon e) w w′ h k v s p =
     let q = label-settled d e w w′ (h d (rw (eq-eqb d d refl) (omega arith))) (k e (rw (eq-eqb e e refl) (omega arith))) v (λ i j. s) p in

@@ -29,16 +29,20 @@ use Rattle.reader.proofs.Places.{as-tree}
 -- ---- a text has one tree at most
 
 -- one member after the other
-both : (a b : Member) (i j : ℕ) (u v : List ℕ) → Below 100 a → Below 100 b → digit i ≡ false → digit j ≡ false → text a (i ∷ u) ≡ text b (j ∷ v) → (a ≡ b) × (i ≡ j) × (u ≡ v)
+both : (a b : Member) (i j : ℕ) (u v : List ℕ) → Below 100 a → Below 100 b
+    → digit i ≡ false → digit j ≡ false → text a (i ∷ u) ≡ text b (j ∷ v)
+    → (a ≡ b) × (i ≡ j) × (u ≡ v)
 both a b i j u v h k p q e =
     let w = settled a b (i ∷ u) (j ∷ v) h k (over-stop a (i ∷ u) (stop-at i u p)) (stop-at j v q) e in
     (w .0, head-is (w .1), tail-is (w .1))
 
 module _ (n : ℕ) (few : n ≤ 64) where
-  low : (t : Member) (o : Outermost) → EachOnce n o → ((x : ℕ) → times x t ≤ timesIn x o) → Below 100 t
+  low : (t : Member) (o : Outermost) → EachOnce n o
+      → ((x : ℕ) → times x t ≤ timesIn x o) → Below 100 t
   low t o h k x p = omega (arith, few, low-some n x (times x t) p (omega (arith, h x, k x)))
 
-  one-tree : (o q : Outermost) → EachOnce n o → EachOnce n q → whole o ≡ whole q → o ≡ q
+  one-tree : (o q : Outermost) → EachOnce n o → EachOnce n q → whole o ≡ whole q
+      → o ≡ q
   unfolding whole timesIn
   one-tree (two a b) (two c d) h k e =
       let w = both a c comma comma _ _ (low a (two a b) h (λ x. omega arith)) (low c (two c d) k (λ x. omega arith)) refl refl (tail-is e) in
@@ -58,22 +62,26 @@ module _ (n : ℕ) (few : n ≤ 64) where
       let u = both c g closes closes _ _ (low c (three a b c) h (λ x. omega arith)) (low g (three d f g) k (λ x. omega arith)) refl refl (v .2) in
       three-same (w .0) (v .0) (u .0)
     where
-      three-same : {a b c d f g : Member} → a ≡ d → b ≡ f → c ≡ g → three a b c ≡ three d f g
+      three-same : {a b c d f g : Member} → a ≡ d → b ≡ f → c ≡ g
+          → three a b c ≡ three d f g
       three-same p q r = cc
 
 -- ---- a text that is no tree has one place
 
 -- what goes on to a tree does so from every place before
-shorter : (n : ℕ) (s : List ℕ) (i j : ℕ) → i ≤ j → GoesOn n (take j s) → GoesOn n (take i s)
+shorter : (n : ℕ) (s : List ℕ) (i j : ℕ) → i ≤ j → GoesOn n (take j s)
+    → GoesOn n (take i s)
 shorter n s i j h (w, t) = (
   drop i (take j s) ++ w,
   as-tree n (ap (λ (l : List ℕ). l ++ w) (sym (take-append-drop i (take j s)) ∙ ap (λ (l : List ℕ). l ++ drop i (take j s)) (take-take i j s h)) ∙ append-assoc (take i s) (drop i (take j s)) w) t,
 )
 
-not-before : (n : ℕ) (s : List ℕ) (p q : ℕ) → NoTree n s p → NoTree n s q → p < q → ⊥
+not-before : (n : ℕ) (s : List ℕ) (p q : ℕ) → NoTree n s p → NoTree n s q
+    → p < q → ⊥
 not-before n s p q a b h = a .there (omega (arith, h, b .inside)) (shorter n s (suc p) q h (b .before))
 
-pub one-place : (n : ℕ) (s : List ℕ) (p q : ℕ) → NoTree n s p → NoTree n s q → p ≡ q
+pub one-place : (n : ℕ) (s : List ℕ) (p q : ℕ) → NoTree n s p → NoTree n s q
+    → p ≡ q
 one-place n s p q a b = go (ltb p q) refl (ltb q p) refl
   where
     go : (x : Bool) → ltb p q ≡ x → (y : Bool) → ltb q p ≡ y → p ≡ q
@@ -82,7 +90,8 @@ one-place n s p q a b = go (ltb p q) refl (ltb q p) refl
     go false e false f = omega (arith, ltb-false p q e, ltb-false q p f)
 
 -- ---- one thing is said of a text
-pub reads-one : (n : ℕ) (s : List ℕ) (room : ℕ) (h k : Heard (List ℕ)) → Reads n s room h → Reads n s room k → h ≡ k
+pub reads-one : (n : ℕ) (s : List ℕ) (room : ℕ) (h k : Heard (List ℕ))
+    → Reads n s room h → Reads n s room k → h ≡ k
 reads-one n s room h k (of-count a e) (of-count b f) = e ∙ sym f
 reads-one n s room h k (of-count a e) (of-text r q b f) = absurd (a r)
 reads-one n s room h k (of-count a e) (of-room r b l f) = absurd (a r)
@@ -116,13 +125,15 @@ reading-one (reading.RefusedAt r p) (reading.RefusedAt q x) h =
     let f : p ≡ x = cc in
     ap₂ reading.RefusedAt (number-one r q e) f
 
-pub plants-one : (n : ℕ) (s out : List ℕ) (a b : Reading) (p q : List ℕ) → Plants n s out a p → Plants n s out b q → (a ≡ b) × (p ≡ q)
+pub plants-one : (n : ℕ) (s out : List ℕ) (a b : Reading) (p q : List ℕ)
+    → Plants n s out a p → Plants n s out b q → (a ≡ b) × (p ≡ q)
 plants-one n s out a b p q x y =
     let e : x .heard ≡ y .heard = reads-one n s (length out) (x .heard) (y .heard) (x .by) (y .by) in
     (reading-one a b (x .says ∙ ap told e ∙ sym (y .says)), x .memory ∙ ap (λ (h : Heard (List ℕ)). planted h out) e ∙ sym (y .memory))
 
 -- ---- the table that is given is valid, and is given for trees alone
-pub reads-valid : (n : ℕ) (s : List ℕ) (room : ℕ) (t : List ℕ) → Reads n s room (gives t) → Accepted n t
+pub reads-valid : (n : ℕ) (s : List ℕ) (room : ℕ) (t : List ℕ)
+    → Reads n s room (gives t) → Accepted n t
 reads-valid n s room t (of-count a e) = absurd (let z : _≡_ {A = ℕ} 0 1 = cc in omega arith)
 reads-valid n s room t (of-text r p a e) = absurd (let z : _≡_ {A = ℕ} 0 1 = cc in omega arith)
 reads-valid n s room t (of-room r a l e) = absurd (let z : _≡_ {A = ℕ} 0 1 = cc in omega arith)
@@ -132,7 +143,8 @@ reads-valid n s room t (of-tree r o a l e) =
 
 -- With a right taxon count and room for it, a table is given exactly for the
 -- texts of the grammar.
-pub reads-iff : (n : ℕ) (s : List ℕ) (room : ℕ) → Right n → 2 * rows n ≤ room → ((t : List ℕ) × Reads n s room (gives t)) ↔ IsTree n s
+pub reads-iff : (n : ℕ) (s : List ℕ) (room : ℕ) → Right n → 2 * rows n ≤ room
+    → ((t : List ℕ) × Reads n s room (gives t)) ↔ IsTree n s
 reads-iff n s room r l = (λ (t, q). to t q, λ (o, a). (table n o, of-tree r o a l refl))
   where
     to : (t : List ℕ) → Reads n s room (gives t) → IsTree n s

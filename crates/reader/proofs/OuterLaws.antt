@@ -32,35 +32,45 @@ module _ (n : ℕ) (a b : Member) where
   fits-two f = fits-each n (group a b) f
 
   module _ (c : Member) where
-    three-fits : EachOnce n (three a b c) → Fits n 0 0 false (group (group a b) c)
+    three-fits : EachOnce n (three a b c)
+        → Fits n 0 0 false (group (group a b) c)
     unfolding timesIn times
     three-fits h = each-fits n (group (group a b) c) h
 
-    fits-three : Fits n 0 0 false (group (group a b) c) → EachOnce n (three a b c)
+    fits-three : Fits n 0 0 false (group (group a b) c)
+        → EachOnce n (three a b c)
     unfolding timesIn times
     fits-three f = fits-each n (group (group a b) c) f
 
 -- what follows the first member, and what follows the second
 pub data AfterFirst (n : ℕ) (a : Member) (x : List ℕ) : Type 0 where
-  of-two : (b : Member) → EachOnce n (two a b) → x ≡ comma ∷ text b (closes ∷ semicolon ∷ []) → AfterFirst n a x
-  of-three : (b c : Member) → EachOnce n (three a b c) → x ≡ comma ∷ text b (comma ∷ text c (closes ∷ semicolon ∷ [])) → AfterFirst n a x
+  of-two : (b : Member) → EachOnce n (two a b)
+      → x ≡ comma ∷ text b (closes ∷ semicolon ∷ []) → AfterFirst n a x
+  of-three : (b c : Member) → EachOnce n (three a b c)
+      → x ≡ comma ∷ text b (comma ∷ text c (closes ∷ semicolon ∷ []))
+      → AfterFirst n a x
 
 pub data AfterSecond (n : ℕ) (a b : Member) (x : List ℕ) : Type 0 where
-  of-two : EachOnce n (two a b) → x ≡ closes ∷ semicolon ∷ [] → AfterSecond n a b x
-  of-three : (c : Member) → EachOnce n (three a b c) → x ≡ comma ∷ text c (closes ∷ semicolon ∷ []) → AfterSecond n a b x
+  of-two : EachOnce n (two a b) → x ≡ closes ∷ semicolon ∷ []
+      → AfterSecond n a b x
+  of-three : (c : Member) → EachOnce n (three a b c)
+      → x ≡ comma ∷ text c (closes ∷ semicolon ∷ []) → AfterSecond n a b x
 
 -- the first member fits its slot, and the second its own
-first-fits : (n : ℕ) (a : Member) (x : List ℕ) → AfterFirst n a x → Fits n 0 1 true a
+first-fits : (n : ℕ) (a : Member) (x : List ℕ) → AfterFirst n a x
+    → Fits n 0 1 true a
 first-fits n a x (of-two b h e) = fits-left n 0 0 false a b (two-fits n a b h)
 first-fits n a x (of-three b c h e) =
     fits-loose n 0 2 1 true a (omega arith) (fits-left n 0 1 true a b (fits-left n 0 0 false (group a b) c (three-fits n a b c h)))
 
-second-fits : (n : ℕ) (a b : Member) (x : List ℕ) → AfterSecond n a b x → Fits n (mark a 0) 0 true b
+second-fits : (n : ℕ) (a b : Member) (x : List ℕ) → AfterSecond n a b x
+    → Fits n (mark a 0) 0 true b
 second-fits n a b x (of-two h e) = fits-loose n (mark a 0) 0 0 false b (omega arith) (fits-right n 0 0 false a b (two-fits n a b h))
 second-fits n a b x (of-three c h e) =
     fits-loose n (mark a 0) 1 0 true b (omega arith) (fits-right n 0 1 true a b (fits-left n 0 0 false (group a b) c (three-fits n a b c h)))
 
-third-fits : (n : ℕ) (a b c : Member) → EachOnce n (three a b c) → Fits n (mark b (mark a 0)) 0 false c
+third-fits : (n : ℕ) (a b c : Member) → EachOnce n (three a b c)
+    → Fits n (mark b (mark a 0)) 0 false c
 unfolding mark
 third-fits n a b c h = fits-right n 0 0 false (group a b) c (three-fits n a b c h)
 
@@ -81,7 +91,8 @@ module _ (n : ℕ) (few : n ≤ 64) (s : List ℕ) where
       let f = fill n 0 0 false (λ x. omega (arith, ap tally (has-none x))) (omega (arith, size-none n, big)) (λ q. refl) in
       expect n s 0 (omega arith) opens (some (f .0) (f .1)) (λ x a t. begins x (t .0) (t .1 .is)) e
     where
-      begins : (x : List ℕ) (o : Outermost) → x ≡ whole o → (y : List ℕ) × (x ≡ opens ∷ y)
+      begins : (x : List ℕ) (o : Outermost) → x ≡ whole o
+          → (y : List ℕ) × (x ≡ opens ∷ y)
       begins x (two a b) i = (text a (comma ∷ text b (closes ∷ semicolon ∷ [])), i)
       begins x (three a b c) i = (text a (comma ∷ text b (comma ∷ text c (closes ∷ semicolon ∷ []))), i)
 
@@ -94,19 +105,23 @@ module _ (n : ℕ) (few : n ≤ 64) (s : List ℕ) where
 
   -- ---- the first member
   module _ (h : here s 0 opens ≡ true) where
-    to-two : (a b : Member) → Fits n 0 0 false (group a b) → IsTree n (take 1 s ++ text a (comma ∷ text b (closes ∷ semicolon ∷ [])))
+    to-two : (a b : Member) → Fits n 0 0 false (group a b)
+        → IsTree n (take 1 s ++ text a (comma ∷ text b (closes ∷ semicolon ∷ [])))
     unfolding whole
     to-two a b f = (two a b, record { each = fits-two n a b f; is = here-step s 0 opens h _ })
 
-    to-three : (a b c : Member) → Fits n 0 0 false (group (group a b) c) → IsTree n (take 1 s ++ text a (comma ∷ text b (comma ∷ text c (closes ∷ semicolon ∷ []))))
+    to-three : (a b c : Member) → Fits n 0 0 false (group (group a b) c)
+        → IsTree n (take 1 s ++ text a (comma ∷ text b (comma ∷ text c (closes ∷ semicolon ∷ []))))
     unfolding whole
     to-three a b c f = (three a b c, record { each = fits-three n a b c f; is = here-step s 0 opens h _ })
 
-    opened : (x : List ℕ) → IsTree n (take 1 s ++ x) → (a : Member) × (w : List ℕ) × (x ≡ text a w) × AfterFirst n a w
+    opened : (x : List ℕ) → IsTree n (take 1 s ++ x)
+        → (a : Member) × (w : List ℕ) × (x ≡ text a w) × AfterFirst n a w
     unfolding whole
     opened x (o, t) = go o (t .each) (sym (here-step s 0 opens h x) ∙ t .is)
       where
-        go : (o : Outermost) → EachOnce n o → opens ∷ x ≡ whole o → (a : Member) × (w : List ℕ) × (x ≡ text a w) × AfterFirst n a w
+        go : (o : Outermost) → EachOnce n o → opens ∷ x ≡ whole o
+            → (a : Member) × (w : List ℕ) × (x ≡ text a w) × AfterFirst n a w
         go (two a b) k e = (a, comma ∷ text b (closes ∷ semicolon ∷ []), tail-is e, of-two b k refl)
         go (three a b c) k e = (a, comma ∷ text b (comma ∷ text c (closes ∷ semicolon ∷ [])), tail-is e, of-three b c k refl)
 
@@ -133,7 +148,8 @@ module _ (n : ℕ) (few : n ≤ 64) (s : List ℕ) where
         first-next a w (of-three b c k e) = rw e (next-at comma _ refl)
 
     module _ (a : Member) (p : ℕ) (A : Past n s 1 0 1 true a p) where
-      after-first : (x : List ℕ) → Over a x → IsTree n (take p s ++ x) → AfterFirst n a x
+      after-first : (x : List ℕ) → Over a x → IsTree n (take p s ++ x)
+          → AfterFirst n a x
       after-first x v t =
           let q = opened (text a x) (as-tree n (A .is x) t) in
           let e = settled a (q .0) x (q .1) (below n 0 1 true a few (A .fits)) (below n 0 1 true (q .0) few (first-fits n (q .0) (q .1) (q .3))) v (first-stop n (q .0) (q .1) (q .3)) (q .2) in
@@ -147,27 +163,34 @@ module _ (n : ℕ) (few : n ≤ 64) (s : List ℕ) where
           (comma ∷ text (g .0) (closes ∷ semicolon ∷ []), as-tree n (sym (A .is _)) (to-two a (g .0) (fits-group n 0 0 false a (g .0) (A .fits) (g .1))))
           (λ x c t. comma-first x (after-first x (over-agrees a s p x (A .over) c) t)) e
         where
-          comma-first : (x : List ℕ) → AfterFirst n a x → (y : List ℕ) × (x ≡ comma ∷ y)
+          comma-first : (x : List ℕ) → AfterFirst n a x
+              → (y : List ℕ) × (x ≡ comma ∷ y)
           comma-first x (of-two b k i) = (text b (closes ∷ semicolon ∷ []), i)
           comma-first x (of-three b c k i) = (text b (comma ∷ text c (closes ∷ semicolon ∷ [])), i)
 
       -- ---- the second member
       module _ (c : here s p comma ≡ true) where
-        passed : (x : List ℕ) → take (p + 1) s ++ x ≡ take 1 s ++ text a (comma ∷ x)
+        passed : (x : List ℕ)
+            → take (p + 1) s ++ x ≡ take 1 s ++ text a (comma ∷ x)
         passed x = here-step s p comma c x ∙ A .is (comma ∷ x)
 
-        between : (x : List ℕ) → IsTree n (take (p + 1) s ++ x) → (b : Member) × (w : List ℕ) × (x ≡ text b w) × AfterSecond n a b w
+        between : (x : List ℕ) → IsTree n (take (p + 1) s ++ x)
+            → (b : Member) × (w : List ℕ) × (x ≡ text b w) × AfterSecond n a b w
         between x t = go (after-first (comma ∷ x) (over-stop a (comma ∷ x) (stop-at comma x refl)) (as-tree n (here-step s p comma c x) t))
           where
-            go : AfterFirst n a (comma ∷ x) → (b : Member) × (w : List ℕ) × (x ≡ text b w) × AfterSecond n a b w
+            go : AfterFirst n a (comma ∷ x)
+                → (b : Member) × (w : List ℕ) × (x ≡ text b w) × AfterSecond n a b w
             go (of-two b k e) = (b, closes ∷ semicolon ∷ [], tail-is e, of-two k refl)
             go (of-three b d k e) = (b, comma ∷ text d (closes ∷ semicolon ∷ []), tail-is e, of-three d k refl)
 
         -- a second member that fits goes on to a tree of two members or three
-        with-two : (b : Member) → Fits n (mark a 0) 0 false b → IsTree n (take (p + 1) s ++ text b (closes ∷ semicolon ∷ []))
+        with-two : (b : Member) → Fits n (mark a 0) 0 false b
+            → IsTree n (take (p + 1) s ++ text b (closes ∷ semicolon ∷ []))
         with-two b f = as-tree n (sym (passed (text b (closes ∷ semicolon ∷ [])))) (to-two a b (fits-group n 0 0 false a b (A .fits) f))
 
-        all-three : (b d : Member) → Fits n (mark a 0) 0 true b → Fits n (mark b (mark a 0)) 0 false d → Fits n 0 0 false (group (group a b) d)
+        all-three : (b d : Member) → Fits n (mark a 0) 0 true b
+            → Fits n (mark b (mark a 0)) 0 false d
+            → Fits n 0 0 false (group (group a b) d)
         unfolding mark
         all-three b d f g =
             let S = mark-size n (mark a 0) 0 true b f in
@@ -175,18 +198,23 @@ module _ (n : ℕ) (few : n ≤ 64) (s : List ℕ) where
             let a2 : Fits n 0 2 true a = record { once = A .fits .once; room = omega (arith, mark-size n 0 1 true a (A .fits), f1 .room); full = λ e. absurd (true≢false e) } in
             fits-group n 0 0 false (group a b) d (fits-group n 0 1 true a b a2 f1) g
 
-        with-three : (b d : Member) → Fits n (mark a 0) 0 true b → Fits n (mark b (mark a 0)) 0 false d → IsTree n (take (p + 1) s ++ text b (comma ∷ text d (closes ∷ semicolon ∷ [])))
+        with-three : (b d : Member) → Fits n (mark a 0) 0 true b
+            → Fits n (mark b (mark a 0)) 0 false d
+            → IsTree n (take (p + 1) s ++ text b (comma ∷ text d (closes ∷ semicolon ∷ [])))
         with-three b d f g = as-tree n (sym (passed (text b (comma ∷ text d (closes ∷ semicolon ∷ []))))) (to-three a b d (all-three b d f g))
 
         -- no taxon is left after it, or some are
-        last-fits : (b : Member) → Fits n (mark a 0) 0 true b → size n (mark b (mark a 0)) ≡ n → Fits n (mark a 0) 0 false b
+        last-fits : (b : Member) → Fits n (mark a 0) 0 true b
+            → size n (mark b (mark a 0)) ≡ n → Fits n (mark a 0) 0 false b
         last-fits b f e = record {
           once = f .once;
           room = f .room;
           full = λ z. sym (mark-size n (mark a 0) 0 true b f) ∙ e;
         }
 
-        goes-three : (b : Member) → Fits n (mark a 0) 0 true b → size n (mark b (mark a 0)) < n → (d : Member) × IsTree n (take (p + 1) s ++ text b (comma ∷ text d (closes ∷ semicolon ∷ [])))
+        goes-three : (b : Member) → Fits n (mark a 0) 0 true b
+            → size n (mark b (mark a 0)) < n
+            → (d : Member) × IsTree n (take (p + 1) s ++ text b (comma ∷ text d (closes ∷ semicolon ∷ [])))
         goes-three b f h =
             let g = fill n (mark b (mark a 0)) 0 false (mark-within n (mark a 0) 0 true b f) (omega (arith, h)) (λ z. refl) in
             (g .0, with-three b (g .0) f (g .1))
@@ -207,11 +235,14 @@ module _ (n : ℕ) (few : n ≤ 64) (s : List ℕ) where
           fills = λ b f. on b f (eqb (size n (mark b (mark a 0))) n) refl;
         }
           where
-            second-next : (b : Member) (w : List ℕ) → AfterSecond n a b w → Next w
+            second-next : (b : Member) (w : List ℕ) → AfterSecond n a b w
+                → Next w
             second-next b w (of-two k e) = rw e (next-at closes _ refl)
             second-next b w (of-three d k e) = rw e (next-at comma _ refl)
 
-            on : (b : Member) → Fits n (mark a 0) 0 true b → (z : Bool) → eqb (size n (mark b (mark a 0))) n ≡ z → (w : List ℕ) × IsTree n (take (p + 1) s ++ text b w)
+            on : (b : Member) → Fits n (mark a 0) 0 true b → (z : Bool)
+                → eqb (size n (mark b (mark a 0))) n ≡ z
+                → (w : List ℕ) × IsTree n (take (p + 1) s ++ text b w)
             on b f true e = (closes ∷ semicolon ∷ [], with-two b (last-fits b f (eqb-true _ n e)))
             on b f false e =
                 let most : size n (mark b (mark a 0)) ≤ n = omega (arith, mark-size n (mark a 0) 0 true b f, f .room) in
@@ -219,7 +250,8 @@ module _ (n : ℕ) (few : n ≤ 64) (s : List ℕ) where
                 (comma ∷ text (g .0) (closes ∷ semicolon ∷ []), g .1)
 
         module _ (b : Member) (q : ℕ) (B : Past n s (p + 1) (mark a 0) 0 true b q) where
-          after-second : (x : List ℕ) → Over b x → IsTree n (take q s ++ x) → AfterSecond n a b x
+          after-second : (x : List ℕ) → Over b x → IsTree n (take q s ++ x)
+              → AfterSecond n a b x
           after-second x v t =
               let r = between (text b x) (as-tree n (B .is x) t) in
               let e = settled b (r .0) x (r .1) (below n (mark a 0) 0 true b few (B .fits)) (below n (mark a 0) 0 true (r .0) few (second-fits n a (r .0) (r .1) (r .3))) v (second-stop n a (r .0) (r .1) (r .3)) (r .2) in
@@ -230,7 +262,8 @@ module _ (n : ℕ) (few : n ≤ 64) (s : List ℕ) where
 
           -- no taxon is left: the group closes
           module _ (none : size n (mark b (mark a 0)) ≡ n) where
-            ends-two : (x : List ℕ) → AfterSecond n a b x → x ≡ closes ∷ semicolon ∷ []
+            ends-two : (x : List ℕ) → AfterSecond n a b x
+                → x ≡ closes ∷ semicolon ∷ []
             ends-two x (of-two k e) = e
             ends-two x (of-three d k e) = absurd (omega (arith, three-total n a b d k, sizes, none))
 
@@ -240,7 +273,8 @@ module _ (n : ℕ) (few : n ≤ 64) (s : List ℕ) where
                 (closes ∷ semicolon ∷ [], as-tree n (sym (B .is (closes ∷ semicolon ∷ []))) (with-two b (last-fits b (B .fits) none)))
                 (λ x z t. (semicolon ∷ [], ends-two x (after-second x (over-agrees b s q x (B .over) z) t))) e
 
-            pub two-closing : here s q closes ≡ true → Closing n s (q + 1) (two a b)
+            pub two-closing : here s q closes ≡ true
+                → Closing n s (q + 1) (two a b)
             unfolding whole
             two-closing e = record {
               inside = omega (arith, here-in s q closes e);
@@ -251,7 +285,8 @@ module _ (n : ℕ) (few : n ≤ 64) (s : List ℕ) where
 
           -- some are left: a third member follows
           module _ (some : size n (mark b (mark a 0)) < n) where
-            ends-three : (x : List ℕ) → AfterSecond n a b x → (d : Member) × EachOnce n (three a b d) × (x ≡ comma ∷ text d (closes ∷ semicolon ∷ []))
+            ends-three : (x : List ℕ) → AfterSecond n a b x
+                → (d : Member) × EachOnce n (three a b d) × (x ≡ comma ∷ text d (closes ∷ semicolon ∷ []))
             ends-three x (of-two k e) = absurd (omega (arith, two-total n a b k, sizes, some))
             ends-three x (of-three d k e) = (d, k, e)
 
@@ -264,12 +299,14 @@ module _ (n : ℕ) (few : n ≤ 64) (s : List ℕ) where
 
             -- ---- the third member
             module _ (k : here s q comma ≡ true) where
-              thence : (x : List ℕ) → IsTree n (take (q + 1) s ++ x) → (d : Member) × EachOnce n (three a b d) × (x ≡ text d (closes ∷ semicolon ∷ []))
+              thence : (x : List ℕ) → IsTree n (take (q + 1) s ++ x)
+                  → (d : Member) × EachOnce n (three a b d) × (x ≡ text d (closes ∷ semicolon ∷ []))
               thence x t =
                   let r = ends-three (comma ∷ x) (after-second (comma ∷ x) (over-stop b (comma ∷ x) (stop-at comma x refl)) (as-tree n (here-step s q comma k x) t)) in
                   (r .0, r .1, tail-is (r .2))
 
-              by-three : (d : Member) → Fits n (mark b (mark a 0)) 0 false d → IsTree n (take (q + 1) s ++ text d (closes ∷ semicolon ∷ []))
+              by-three : (d : Member) → Fits n (mark b (mark a 0)) 0 false d
+                  → IsTree n (take (q + 1) s ++ text d (closes ∷ semicolon ∷ []))
               by-three d f = as-tree n (sym (here-step s q comma k _ ∙ B .is _)) (with-three b d (B .fits) f)
 
               pub third-slot : Slot n s (q + 1) (mark b (mark a 0)) 0 false
@@ -289,7 +326,8 @@ module _ (n : ℕ) (few : n ≤ 64) (s : List ℕ) where
               }
 
               module _ (d : Member) (r : ℕ) (D : Past n s (q + 1) (mark b (mark a 0)) 0 false d r) where
-                ends-here : (x : List ℕ) → Over d x → IsTree n (take r s ++ x) → x ≡ closes ∷ semicolon ∷ []
+                ends-here : (x : List ℕ) → Over d x → IsTree n (take r s ++ x)
+                    → x ≡ closes ∷ semicolon ∷ []
                 ends-here x v t =
                     let f = thence (text d x) (as-tree n (D .is x) t) in
                     settled d (f .0) x (closes ∷ semicolon ∷ []) (below n (mark b (mark a 0)) 0 false d few (D .fits)) (below n (mark b (mark a 0)) 0 false (f .0) few (third-fits n a b (f .0) (f .1))) v (stop-at closes _ refl) (f .2) .1
@@ -300,7 +338,8 @@ module _ (n : ℕ) (few : n ≤ 64) (s : List ℕ) where
                     (closes ∷ semicolon ∷ [], as-tree n (sym (D .is _)) (by-three d (D .fits)))
                     (λ x z t. (semicolon ∷ [], ends-here x (over-agrees d s r x (D .over) z) t)) e
 
-                pub three-closing : here s r closes ≡ true → Closing n s (r + 1) (three a b d)
+                pub three-closing : here s r closes ≡ true
+                    → Closing n s (r + 1) (three a b d)
                 unfolding whole
                 three-closing e = record {
                   inside = omega (arith, here-in s r closes e);
@@ -320,7 +359,8 @@ module _ (n : ℕ) (s : List ℕ) (p : ℕ) (o : Outermost) (C : Closing n s p o
     pub more-after : p + 1 < length s → NoTree n s (p + 1)
     more-after h = stuck n s (p + 1) (omega (arith, h)) ([], (o, record { each = C .each; is = here-step s p semicolon e [] ∙ C .is })) dead
       where
-        dead : (x : List ℕ) → Agrees s (p + 1) x → IsTree n (take (p + 1) s ++ x) → ⊥
+        dead : (x : List ℕ) → Agrees s (p + 1) x
+            → IsTree n (take (p + 1) s ++ x) → ⊥
         dead x (ended l i) t = omega (arith, l, h)
         dead x (byte l y i) t = nil-cons (sym (tail-is (C .only (semicolon ∷ x) (as-tree n (here-step s p semicolon e x) t))) ∙ i)
 

@@ -35,7 +35,9 @@ module _ (n : ℕ) (s : List ℕ) (p : ℕ) (inside : p ≤ length s) where
       go false e = let l = ltb-false p (length s) e in ended (omega (arith, l, inside)) (drop-of-length-le s l)
 
   -- what was read goes on to a tree, and not as the text does
-  pub stuck : GoesOn n (take p s) → ((x : List ℕ) → Agrees s p x → IsTree n (take p s ++ x) → ⊥) → NoTree n s p
+  pub stuck : GoesOn n (take p s)
+      → ((x : List ℕ) → Agrees s p x → IsTree n (take p s ++ x) → ⊥)
+      → NoTree n s p
   stuck g dead = record {
     none = λ t. dead (drop p s) rest-agrees (as-tree n (sym (take-append-drop p s)) t);
     inside = inside;
@@ -44,7 +46,8 @@ module _ (n : ℕ) (s : List ℕ) (p : ℕ) (inside : p ≤ length s) where
   }
 
   -- every tree goes on with a byte that the text has not
-  pub expect : (b : ℕ) → GoesOn n (take p s) → ((x : List ℕ) → Agrees s p x → IsTree n (take p s ++ x) → (y : List ℕ) × (x ≡ b ∷ y))
+  pub expect : (b : ℕ) → GoesOn n (take p s)
+      → ((x : List ℕ) → Agrees s p x → IsTree n (take p s ++ x) → (y : List ℕ) × (x ≡ b ∷ y))
       → here s p b ≡ false → NoTree n s p
   expect b g only e = stuck g (λ x a t. let q = only x a t in go x a (q .0) (q .1))
     where
@@ -64,7 +67,8 @@ module _ (s : List ℕ) (p b : ℕ) (e : here s p b ≡ true) where
   here-step x = rw add-one (step s x p here-in ∙ ap (λ (c : ℕ). take p s ++ (c ∷ x)) here-is)
 
 -- what follows a member is settled by the byte there
-pub over-agrees : (t : Member) (s : List ℕ) (p : ℕ) (x : List ℕ) → Over t (drop p s) → Agrees s p x → Over t x
+pub over-agrees : (t : Member) (s : List ℕ) (p : ℕ) (x : List ℕ)
+    → Over t (drop p s) → Agrees s p x → Over t x
 unfolding Stop
 over-agrees (group l r) s p x h a = tt
 over-agrees (taxon d) s p x h a = λ i j. go x (h i j) a
@@ -77,7 +81,8 @@ over-agrees (taxon d) s p x h a = λ i j. go x (h i j) a
 abbrev From : List ℕ → List ℕ → ℕ → ℕ → Type 0
 From s x at p = (z : List ℕ) × (take (suc p) s ++ x ≡ take at s ++ (getD s at 0 ∷ z))
 
-pub from-on : (s x : List ℕ) (at j p : ℕ) → at + j ≡ p → p < length s → From s x at p
+pub from-on : (s x : List ℕ) (at j p : ℕ) → at + j ≡ p → p < length s
+    → From s x at p
 from-on s x at zero p k h =
     let e : at ≡ p = omega (arith, k) in
     subst (From s x at) e (x, step s x at (omega (arith, e, h)))

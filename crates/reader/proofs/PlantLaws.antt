@@ -31,7 +31,8 @@ module _ (n : ℕ) (s out : List ℕ) where
   wrong-count h = record { heard = refuses 1; by = of-count h refl; says = refl; memory = refl }
 
   module _ (right : Right n) (r : Parsed) (t : List ℕ) (P : ParsedIs n s t r) where
-    pub no-tree : (p : ℕ) → r ≡ parsed.Bad p → Plants n s out (reading.RefusedAt Text p) out
+    pub no-tree : (p : ℕ) → r ≡ parsed.Bad p
+        → Plants n s out (reading.RefusedAt Text p) out
     no-tree p e = record { heard = refusesAt 14 p; by = of-text right p (subst (ParsedIs n s t) e P) refl; says = refl; memory = refl }
 
     module _ (e : r ≡ parsed.Whole) where
@@ -41,7 +42,8 @@ module _ (n : ℕ) (s out : List ℕ) where
       length-is : length t ≡ 2 * rows n
       length-is = ap length (whole .2) ∙ table-length n (whole .0)
 
-      pub no-room : length out < length t → Plants n s out (reading.Refused Room) out
+      pub no-room : length out < length t
+          → Plants n s out (reading.Refused Room) out
       no-room h = record {
         heard = refuses 11;
         by = of-room right (whole .0, whole .1) (omega (arith, h, length-is)) refl;
@@ -49,7 +51,9 @@ module _ (n : ℕ) (s out : List ℕ) where
         memory = refl;
       }
 
-      pub tree-given : length t ≤ length out → (u : List ℕ) → u ≡ take (length t) t ++ drop (length t) out → Plants n s out reading.Table u
+      pub tree-given : length t ≤ length out → (u : List ℕ)
+          → u ≡ take (length t) t ++ drop (length t) out
+          → Plants n s out reading.Table u
       tree-given h u q = record {
         heard = gives (table n (whole .0));
         by = of-tree right (whole .0) (whole .1) (omega (arith, h, length-is)) refl;

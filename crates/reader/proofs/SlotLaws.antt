@@ -39,14 +39,16 @@ module _ (n : ℕ) (few : n ≤ 64) (s : List ℕ) (at u m : ℕ) (o : Bool) (S 
       no x (ended l e) q = text-some (q .member) (q .rest) (low (q .member) (q .fits)) (sym e ∙ q .is)
 
   -- no label begins with a parenthesis
-  no-taxon : (d : ℕ) (w y : List ℕ) → Fits n u m o (taxon d) → opens ∷ y ≡ text (taxon d) w → ⊥
+  no-taxon : (d : ℕ) (w y : List ℕ) → Fits n u m o (taxon d)
+      → opens ∷ y ≡ text (taxon d) w → ⊥
   unfolding text times
   no-taxon d w y f e =
       let l = label-first d w (low (taxon d) f d (rw (eq-eqb d d refl) (omega arith))) in
       omega (arith, l .3, head-is (e ∙ l .2))
 
   -- a group for which too few taxa are left
-  pub too-deep : at < length s → getD s at 0 ≡ opens → n < size n u + m + 2 → NoTree n s at
+  pub too-deep : at < length s → getD s at 0 ≡ opens → n < size n u + m + 2
+      → NoTree n s at
   unfolding groups
   too-deep h b r′ = stuck n s at (S .inside) goes (λ x a t. no x a (S .settles x t))
     where
@@ -59,7 +61,9 @@ module _ (n : ℕ) (few : n ≤ 64) (s : List ℕ) (at u m : ℕ) (o : Bool) (S 
           go (group l r) f i = omega (arith, r′, f .room)
 
   -- ---- a label
-  taxon-on : (d p : ℕ) (w : List ℕ) → take p s ++ w ≡ take at s ++ decimal d → (v : List ℕ) × IsTree n (take at s ++ text (taxon d) v) → GoesOn n (take p s)
+  taxon-on : (d p : ℕ) (w : List ℕ) → take p s ++ w ≡ take at s ++ decimal d
+      → (v : List ℕ) × IsTree n (take at s ++ text (taxon d) v)
+      → GoesOn n (take p s)
   unfolding text
   taxon-on d p w e (v, t) =
       (w ++ v, as-tree n (sym (append-assoc (take at s) (decimal d) v) ∙ ap (λ (l : List ℕ). l ++ v) (sym e) ∙ append-assoc (take p s) w v) t)
@@ -72,7 +76,8 @@ module _ (n : ℕ) (few : n ≤ 64) (s : List ℕ) (at u m : ℕ) (o : Bool) (S 
         let q = S .settles (getD s at 0 ∷ y) t in
         go (q .member) (q .fits) (q .rest) (next-stop (q .rest) (q .next)) (q .is)
       where
-        go : (t : Member) → Fits n u m o t → (w : List ℕ) → Stop w → getD s at 0 ∷ y ≡ text t w
+        go : (t : Member) → Fits n u m o t → (w : List ℕ) → Stop w
+            → getD s at 0 ∷ y ≡ text t w
             → (d : ℕ) × (w : List ℕ) × (has (allowed n u o) d ≡ true) × Stop w × (getD s at 0 ∷ y ≡ decimal d ++ w)
         go (taxon d) f w k e = (d, w, fits-allowed n u m o d f, k, e)
         go (group l r) f w k e = absurd (b (head-is e))
@@ -85,11 +90,13 @@ module _ (n : ℕ) (few : n ≤ 64) (s : List ℕ) (at u m : ℕ) (o : Bool) (S 
       there = λ l (w, t). later l w t;
     }
       where
-        whole : (d : ℕ) × (w : List ℕ) × (has (allowed n u o) d ≡ true) × Stop w × (getD s at 0 ∷ drop (suc at) s ≡ decimal d ++ w) → ⊥
+        whole : (d : ℕ) × (w : List ℕ) × (has (allowed n u o) d ≡ true) × Stop w × (getD s at 0 ∷ drop (suc at) s ≡ decimal d ++ w)
+            → ⊥
         whole (d, w, i, j, e) =
             M .none d w i (λ p q. j) (sym (take-append-drop at s) ∙ ap (λ (l : List ℕ). take at s ++ l) (drop-cons s at 0 h ∙ e))
 
-        goes-to : (p ≡ at) ⊎ ((d : ℕ) × (w : List ℕ) × (has (allowed n u o) d ≡ true) × (take p s ++ w ≡ take at s ++ decimal d)) → GoesOn n (take p s)
+        goes-to : (p ≡ at) ⊎ ((d : ℕ) × (w : List ℕ) × (has (allowed n u o) d ≡ true) × (take p s ++ w ≡ take at s ++ decimal d))
+            → GoesOn n (take p s)
         goes-to (inl e) = subst (λ (i : ℕ). GoesOn n (take i s)) (sym e) goes
         goes-to (inr (d, w, i, e)) = taxon-on d p w e (S .fills (taxon d) (allowed-fits n u m o d (S .within) (S .room) i))
 
@@ -100,7 +107,8 @@ module _ (n : ℕ) (few : n ≤ 64) (s : List ℕ) (at u m : ℕ) (o : Bool) (S 
             let f = is-taxon (q .0) (as-tree n (q .1) t) in
             M .there l x (f .0) (f .1) (f .2) (λ i j. f .3) (q .1 ∙ ap (λ (z : List ℕ). take at s ++ z) (f .4))
 
-  pub past-taxon : (d p : ℕ) → Found s at (allowed n u o) d p → Past n s at u m o (taxon d) p
+  pub past-taxon : (d p : ℕ) → Found s at (allowed n u o) d p
+      → Past n s at u m o (taxon d) p
   unfolding text
   past-taxon d p f = record {
     fits = allowed-fits n u m o d (S .within) (S .room) (f .among);
@@ -125,11 +133,13 @@ module _ (n : ℕ) (few : n ≤ 64) (s : List ℕ) (at u m : ℕ) (o : Bool) (S 
         let q = S .settles (opens ∷ x) (as-tree n (here-step s at opens h x) t) in
         go (q .member) (q .rest) (q .fits) (q .is)
       where
-        go : (t : Member) (w : List ℕ) → Fits n u m o t → opens ∷ x ≡ text t w → Opened x
+        go : (t : Member) (w : List ℕ) → Fits n u m o t → opens ∷ x ≡ text t w
+            → Opened x
         go (group l r) w f e = record { left = l; right = r; rest = w; fits = f; is = tail-is e }
         go (taxon d) w f e = absurd (no-taxon d w x f e)
 
-    to-group : (l r : Member) → Fits n u m o (group l r) → (w : List ℕ) × IsTree n (take (at + 1) s ++ text l (comma ∷ text r (closes ∷ w)))
+    to-group : (l r : Member) → Fits n u m o (group l r)
+        → (w : List ℕ) × IsTree n (take (at + 1) s ++ text l (comma ∷ text r (closes ∷ w)))
     unfolding text
     to-group l r f =
         let g = S .fills (group l r) f in
@@ -157,7 +167,8 @@ module _ (n : ℕ) (few : n ≤ 64) (s : List ℕ) (at u m : ℕ) (o : Bool) (S 
 
     module _ (l : Member) (p : ℕ) (L : Past n s (at + 1) u (suc m) true l p) where
       -- a tree goes on after the first member as this group does
-      after-left : (x : List ℕ) → Over l x → IsTree n (take p s ++ x) → (r : Member) × (w : List ℕ) × Fits n (mark l u) m o r × (x ≡ comma ∷ text r (closes ∷ w))
+      after-left : (x : List ℕ) → Over l x → IsTree n (take p s ++ x)
+          → (r : Member) × (w : List ℕ) × Fits n (mark l u) m o r × (x ≡ comma ∷ text r (closes ∷ w))
       after-left x v t =
           let q = opened (text l x) (as-tree n (L .is x) t) in
           let e = settled l (q .left) x (comma ∷ text (q .right) (closes ∷ q .rest)) (below n u (suc m) true l few (L .fits))
@@ -174,12 +185,14 @@ module _ (n : ℕ) (few : n ≤ 64) (s : List ℕ) (at u m : ℕ) (o : Bool) (S 
           (λ x a t. let q = after-left x (over-agrees l s p x (L .over) a) t in (text (q .0) (closes ∷ q .1), q .3)) e
 
       module _ (c : here s p comma ≡ true) where
-        after-comma : (x : List ℕ) → IsTree n (take (p + 1) s ++ x) → (r : Member) × (w : List ℕ) × Fits n (mark l u) m o r × (x ≡ text r (closes ∷ w))
+        after-comma : (x : List ℕ) → IsTree n (take (p + 1) s ++ x)
+            → (r : Member) × (w : List ℕ) × Fits n (mark l u) m o r × (x ≡ text r (closes ∷ w))
         after-comma x t =
             let q = after-left (comma ∷ x) (over-stop l (comma ∷ x) (stop-at comma x refl)) (as-tree n (here-step s p comma c x) t) in
             (q .0, q .1, q .2, tail-is (q .3))
 
-        to-right : (r : Member) → Fits n (mark l u) m o r → (w : List ℕ) × IsTree n (take (p + 1) s ++ text r (closes ∷ w))
+        to-right : (r : Member) → Fits n (mark l u) m o r
+            → (w : List ℕ) × IsTree n (take (p + 1) s ++ text r (closes ∷ w))
         to-right r f =
             let k = to-group l r (fits-group n u m o l r (L .fits) f) in
             (k .0, as-tree n (sym (here-step s p comma c (text r (closes ∷ k .0)) ∙ L .is (comma ∷ text r (closes ∷ k .0)))) (k .1))
@@ -211,7 +224,8 @@ module _ (n : ℕ) (few : n ≤ 64) (s : List ℕ) (at u m : ℕ) (o : Bool) (S 
               let g = settled r (f .0) x (closes ∷ f .1) (below n (mark l u) m o r few (R .fits)) (below n (mark l u) m o (f .0) few (f .2)) (over-agrees r s q x (R .over) a) (stop-at closes _ refl) (f .3) in
               (f .1, g .1)) e
 
-          pub past-group : here s q closes ≡ true → Past n s at u m o (group l r) (q + 1)
+          pub past-group : here s q closes ≡ true
+              → Past n s at u m o (group l r) (q + 1)
           unfolding text
           past-group e = record {
             fits = fits-group n u m o l r (L .fits) (R .fits);

@@ -35,7 +35,8 @@ module _ (s t : List ℕ) (c : Cursor) (x y : ℕ) (C : Closes s t c x y) where
   pub row-first : (2 * x + 1 < length t) × (x < 256) × (c .next < 256)
   row-first = (C .first, C .small .0, C .small .2)
 
-  pub row-second : (u : List ℕ) → u ≡ join x (c .next) t → (2 * y + 1 < length u) × (y < 256) × (c .next < 256)
+  pub row-second : (u : List ℕ) → u ≡ join x (c .next) t
+      → (2 * y + 1 < length u) × (y < 256) × (c .next < 256)
   row-second u e = (omega (arith, C .second, ap length e ∙ length-join t x (c .next)), C .small .1, C .small .2)
 
 -- ---- the row between two nodes, by the order of their numbers
@@ -46,10 +47,12 @@ module _ (t : List ℕ) (x y : ℕ) where
   pub row-above : y ≤ x → 2 * smaller x y + 1 < length t → 2 * y + 1 < length t
   row-above l h = rw (le-ltb x y l) at h
 
-  pub joined-below : x < y → (u : List ℕ) → u ≡ join x y t → u ≡ join (smaller x y) (larger x y) t
+  pub joined-below : x < y → (u : List ℕ) → u ≡ join x y t
+      → u ≡ join (smaller x y) (larger x y) t
   joined-below l u e = rw (lt-ltb x y l) e
 
-  pub joined-above : y ≤ x → (u : List ℕ) → u ≡ join y x t → u ≡ join (smaller x y) (larger x y) t
+  pub joined-above : y ≤ x → (u : List ℕ) → u ≡ join y x t
+      → u ≡ join (smaller x y) (larger x y) t
   joined-above l u e = rw (le-ltb x y l) e
 
 -- ---- the taxa that may stand alone
@@ -61,10 +64,12 @@ module _ (n u : ℕ) (few : n ≤ most) (w : Within n u) where
   pub free-more : (o : Bool) → o ≡ true → less (full n) u ≡ allowed n u o
   free-more o e = rw e
 
-  pub free-last : (o : Bool) → o ≡ false → size most u + 1 ≡ n → less (full n) u ≡ allowed n u o
+  pub free-last : (o : Bool) → o ≡ false → size most u + 1 ≡ n
+      → less (full n) u ≡ allowed n u o
   free-last o e h = rw (e, eq-eqb (suc (size n u)) n (omega (arith, h, size-is)))
 
-  pub free-none : (o : Bool) → o ≡ false → (size most u + 1 ≡ n → ⊥) → 0 ≡ allowed n u o
+  pub free-none : (o : Bool) → o ≡ false → (size most u + 1 ≡ n → ⊥)
+      → 0 ≡ allowed n u o
   free-none o e h = rw (e, ne-eqb (suc (size n u)) n (λ q. h (omega (arith, q, size-is))))
 
 -- ---- a label that was read, among the taxa that may stand there
@@ -72,14 +77,16 @@ module _ (s : List ℕ) (at f : ℕ) (n u : ℕ) (o : Bool) (is : f ≡ allowed 
   pub label-bad : (p : ℕ) → r ≡ label.Bad p → Missed s at (allowed n u o) p
   label-bad p e = subst (λ (v : ℕ). Missed s at v p) is (subst (LabelIs s at f) e L)
 
-  pub label-found : (d p : ℕ) → r ≡ label.Taxon d p → Found s at (allowed n u o) d p
+  pub label-found : (d p : ℕ) → r ≡ label.Taxon d p
+      → Found s at (allowed n u o) d p
   label-found d p e = subst (λ (v : ℕ). Found s at v d p) is (subst (LabelIs s at f) e L)
 
   pub label-low : n ≤ most → (d p : ℕ) → r ≡ label.Taxon d p → d < most
   label-low few d p e = omega (arith, few, allowed-low n u 0 o d (label-found d p e .among))
 
 -- no label stands at the end of the text
-pub label-none : (s : List ℕ) (at n u : ℕ) (o : Bool) → n ≤ most → length s ≤ at → at ≤ length s → Missed s at (allowed n u o) at
+pub label-none : (s : List ℕ) (at n u : ℕ) (o : Bool) → n ≤ most → length s ≤ at
+    → at ≤ length s → Missed s at (allowed n u o) at
 label-none s at n u o few h k = record {
   after = omega arith;
   inside = k;
@@ -88,7 +95,8 @@ label-none s at n u o few h k = record {
   none = λ d w m e q. absurd (some d w (omega (arith, few, allowed-low n u 0 o d m)) q);
 }
   where
-    some : (d : ℕ) (w : List ℕ) → d < 100 → s ≡ take at s ++ (decimal d ++ w) → ⊥
+    some : (d : ℕ) (w : List ℕ) → d < 100 → s ≡ take at s ++ (decimal d ++ w)
+        → ⊥
     some d w l q =
         let f = label-first d w l in
         let e : length s ≡ length (take at s) + suc (length (f .1)) =
@@ -97,23 +105,28 @@ label-none s at n u o few h k = record {
 
 -- ---- one answer for another that is the same
 module _ (n : ℕ) (s : List ℕ) (r : Got) where
-  pub bad-again : (c d : Cursor) (i j : ℕ) (o q : Bool) (t t₁ u u₁ : List ℕ) (p : ℕ) → r ≡ got.Bad p → GotIs n s c i o t t₁ r → GotIs n s d j q u u₁ r
+  pub bad-again : (c d : Cursor) (i j : ℕ) (o q : Bool) (t t₁ u u₁ : List ℕ) (p : ℕ)
+      → r ≡ got.Bad p → GotIs n s c i o t t₁ r → GotIs n s d j q u u₁ r
   bad-again c d i j o q t t₁ u u₁ p e g = subst (GotIs n s d j q u u₁) (sym e) (subst (GotIs n s c i o t t₁) e g)
 
-  pub bad-is : (c : Cursor) (i : ℕ) (o : Bool) (t t₁ : List ℕ) (p : ℕ) → r ≡ got.Bad p → GotIs n s c i o t t₁ r → NoTree n s p
+  pub bad-is : (c : Cursor) (i : ℕ) (o : Bool) (t t₁ : List ℕ) (p : ℕ)
+      → r ≡ got.Bad p → GotIs n s c i o t t₁ r → NoTree n s p
   bad-is c i o t t₁ p e g = subst (GotIs n s c i o t t₁) e g
 
-  pub read-is : (z c d : Cursor) (i v : ℕ) (o : Bool) (t t₁ : List ℕ) → z ≡ c → r ≡ got.Node d v → GotIs n s z i o t t₁ r → Read n s c i o t t₁ d v
+  pub read-is : (z c d : Cursor) (i v : ℕ) (o : Bool) (t t₁ : List ℕ) → z ≡ c
+      → r ≡ got.Node d v → GotIs n s z i o t t₁ r → Read n s c i o t t₁ d v
   read-is z c d i v o t t₁ q e g = subst (λ (y : Cursor). Read n s y i o t t₁ d v) q (subst (GotIs n s z i o t t₁) e g)
 
 -- a cursor for another that is the same
-pub ready-at : (n : ℕ) (s t : List ℕ) (z c : Cursor) (m : ℕ) (o : Bool) → z ≡ c → Ready n s t c m o → Ready n s t z m o
+pub ready-at : (n : ℕ) (s t : List ℕ) (z c : Cursor) (m : ℕ) (o : Bool) → z ≡ c
+    → Ready n s t c m o → Ready n s t z m o
 ready-at n s t z c m o e r = subst (λ (y : Cursor). Ready n s t y m o) (sym e) r
 
 -- ---- a member
 module _ (n : ℕ) (s t : List ℕ) (c : Cursor) (m : ℕ) (o : Bool) (R : Ready n s t c m o) where
   -- a label
-  pub got-taxon : here s (c .at) opens ≡ false → (r : Got) → TakenIs n s c o r → GotIs n s c m o t t r
+  pub got-taxon : here s (c .at) opens ≡ false → (r : Got) → TakenIs n s c o r
+      → GotIs n s c m o t t r
   unfolding withRows node groups mark
   got-taxon e (got.Bad p) M = go (ltb (c .at) (length s)) refl
     where
@@ -202,7 +215,8 @@ module _ (n : ℕ) (s t : List ℕ) (c : Cursor) (m : ℕ) (o : Bool) (R : Ready
               small = (omega (arith, left-node, parent-node, R .few), omega (arith, right-node, parent-node, R .few), omega (arith, parent-node, R .few));
             }
 
-            pub got-group : (t₃ : List ℕ) (r : Got) → ClosedIs s f x y t₂ t₃ r → GotIs n s c m o t t₃ r
+            pub got-group : (t₃ : List ℕ) (r : Got) → ClosedIs s f x y t₂ t₃ r
+                → GotIs n s c m o t t₃ r
             unfolding withRows node groups mark
             got-group t₃ (got.Bad p) (e, h) = subst (NoTree n s) (sym e) (no-close n (R .few) s (c .at) (c .used) m o (R .slot) h₀ (L .member) (d .at) past-left k (Q .member) (f .at) past-right h)
             got-group t₃ (got.Node g v) C = record {

@@ -27,7 +27,9 @@ use Rattle.reader.proofs.OuterLaws.{first-slot, no-first-comma, second-
 use Rattle.reader.proofs.StageLaws.{size-is}
 
 -- ---- the end of the text
-end-parsed : (n : ℕ) (s : List ℕ) (p : ℕ) (o : Outermost) → Closing n s p o → (t : List ℕ) → t ≡ table n o → (r : Parsed) → EndIs s p r → ParsedIs n s t r
+end-parsed : (n : ℕ) (s : List ℕ) (p : ℕ) (o : Outermost) → Closing n s p o
+    → (t : List ℕ) → t ≡ table n o → (r : Parsed) → EndIs s p r
+    → ParsedIs n s t r
 end-parsed n s p o C t e parsed.Whole (h, l) = (o, whole-text n s p o C h l, e)
 end-parsed n s p o C t e (parsed.Bad q) (inl (i, h)) = subst (NoTree n s) (sym i) (no-semicolon n s p o C h)
 end-parsed n s p o C t e (parsed.Bad q) (inr (i, h, l)) = subst (NoTree n s) (sym i) (more-after n s p o C h l)
@@ -74,7 +76,8 @@ module _ (n : ℕ) (s : List ℕ) where
         len = ap length (O .written) ∙ length-rows (O .first) n (blank n) ∙ blank-length n;
       }
 
-      pub two-read : (t₁ : List ℕ) (d : Cursor) (y : ℕ) → Read n s (ahead c) 0 true t t₁ d y → Two n s t₁ d x y
+      pub two-read : (t₁ : List ℕ) (d : Cursor) (y : ℕ)
+          → Read n s (ahead c) 0 true t t₁ d y → Two n s t₁ d x y
       two-read t₁ d y Q = record {
         big = O .big;
         few = O .few;
@@ -139,7 +142,9 @@ module _ (n : ℕ) (s : List ℕ) where
       pub join-room : (2 * smaller x y + 1 < length t) × (x < 256) × (y < 256)
       join-room = (omega (arith, smaller-low, two-length), omega (arith, x-low, size-both, counted, all, T .few), omega (arith, y-low, T .next, size-both, counted, all, T .few))
 
-      pub two-parsed : (e : here s (c .at) closes ≡ true) (u : List ℕ) → u ≡ join (smaller x y) (larger x y) t → (r : Parsed) → EndIs s (c .at + 1) r → ParsedIs n s u r
+      pub two-parsed : (e : here s (c .at) closes ≡ true) (u : List ℕ)
+          → u ≡ join (smaller x y) (larger x y) t → (r : Parsed)
+          → EndIs s (c .at + 1) r → ParsedIs n s u r
       unfolding table
       two-parsed e u q =
           end-parsed n s (c .at + 1) (two (T .first) (T .second)) (two-closing n (T .few) s (T .opened) (T .first) (T .place) (T .past-first) (T .parted) (T .second) (c .at) (T .past) none e)
@@ -182,7 +187,8 @@ module _ (n : ℕ) (s : List ℕ) where
           z-low = omega (arith, Q .named, Q .next, node-lt n (Q .member) (c .next) (below-n n (c .used) 0 false (Q .member) (Q .past .fits)) (omega (arith, T .next)))
 
           -- each of the three rows has its place in the table
-          fits-row : (w : List ℕ) (v : ℕ) → length w ≡ 2 * rows n → v < d .next → (2 * v + 1 < length w) × (v < 256) × (d .next < 256)
+          fits-row : (w : List ℕ) (v : ℕ) → length w ≡ 2 * rows n → v < d .next
+              → (2 * v + 1 < length w) × (v < 256) × (d .next < 256)
           fits-row w v l h = (omega (arith, l, h, last-node), omega (arith, h, last-node, T .few), omega (arith, last-node, T .few))
 
           pub x-room : (2 * x + 1 < length t₁) × (x < 256) × (d .next < 256)
@@ -199,7 +205,9 @@ module _ (n : ℕ) (s : List ℕ) where
               pub z-room : (2 * z + 1 < length t₃) × (z < 256) × (d .next < 256)
               z-room = fits-row t₃ z (ap length e₃ ∙ length-join t₂ y (d .next) ∙ length₂) z-low
 
-              pub three-parsed : (e : here s (d .at) closes ≡ true) (u : List ℕ) → u ≡ join z (d .next) t₃ → (r : Parsed) → EndIs s (d .at + 1) r → ParsedIs n s u r
+              pub three-parsed : (e : here s (d .at) closes ≡ true) (u : List ℕ)
+                  → u ≡ join z (d .next) t₃ → (r : Parsed)
+                  → EndIs s (d .at + 1) r → ParsedIs n s u r
               unfolding table
               three-parsed e u q =
                   end-parsed n s (d .at + 1) (three (T .first) (T .second) (Q .member))
