@@ -41,9 +41,11 @@ tally-zero false h = refl
 has-mark : (t : Member) (u : ℕ) → ((x : ℕ) → tally (has u x) + times x t ≤ 1)
     → (x : ℕ) → tally (has (mark t u) x) ≡ tally (has u x) + times x t
 unfolding mark times
-has-mark (taxon d) u h x = ap tally (has-add u d x) ∙ tally-or (has u x) (eqb d x) (h x)
+has-mark (taxon d) u h x = ap tally (has-add u d x)
+    ∙ tally-or (has u x) (eqb d x) (h x)
 has-mark (group l r) u h x =
-    let L : (y : ℕ) → tally (has (mark l u) y) ≡ tally (has u y) + times y l = has-mark l u (λ y. omega (arith, h y)) in
+    let L : (y : ℕ) → tally (has (mark l u) y) ≡ tally (has u y) + times y l = has-mark l u
+    (λ y. omega (arith, h y)) in
     has-mark r (mark l u) (λ y. omega (arith, h y, L y)) x ∙ omega (arith, L x)
 
 module _ (n u m : ℕ) (o : Bool) where
@@ -59,7 +61,8 @@ module _ (n u m : ℕ) (o : Bool) where
 
   pub marked : (t : Member) → Fits n u m o t → (x : ℕ)
       → tally (has (mark t u) x) ≡ tally (has u x) + times x t
-  marked t f = has-mark t u (λ x. omega (arith, f .once x, tally-most (ltb x n)))
+  marked t f = has-mark t u
+      (λ x. omega (arith, f .once x, tally-most (ltb x n)))
 
   pub mark-within : (t : Member) → Fits n u m o t → (x : ℕ)
       → tally (has (mark t u) x) ≤ tally (ltb x n)
@@ -67,7 +70,8 @@ module _ (n u m : ℕ) (o : Bool) where
 
   pub mark-size : (t : Member) → Fits n u m o t
       → size n (mark t u) ≡ size n u + suc (groups t)
-  mark-size t f = size-with n t u (mark t u) (marked t f) ∙ ap (λ (k : ℕ). size n u + k) (labels-all n t (below-n t f))
+  mark-size t f = size-with n t u (mark t u) (marked t f)
+      ∙ ap (λ (k : ℕ). size n u + k) (labels-all n t (below-n t f))
 
   -- ---- the members of a group
   pub fits-left : (l r : Member) → Fits n u m o (group l r)
@@ -84,8 +88,11 @@ module _ (n u m : ℕ) (o : Bool) where
   unfolding times groups
   fits-right l r f =
       let L = fits-left l r f in
-      let M : (x : ℕ) → tally (has (mark l u) x) ≡ tally (has u x) + times x l = has-mark l u (λ x. omega (arith, L .once x, tally-most (ltb x n))) in
-      let S : size n (mark l u) ≡ size n u + suc (groups l) = size-with n l u (mark l u) M ∙ ap (λ (k : ℕ). size n u + k) (labels-all n l (λ x p. below-n (group l r) f x (omega (arith, p)))) in
+      let M : (x : ℕ) → tally (has (mark l u) x) ≡ tally (has u x) + times x l = has-mark l u
+      (λ x. omega (arith, L .once x, tally-most (ltb x n))) in
+      let S : size n (mark l u) ≡ size n u + suc (groups l) = size-with n l u
+      (mark l u) M ∙ ap (λ (k : ℕ). size n u + k)
+      (labels-all n l (λ x p. below-n (group l r) f x (omega (arith, p)))) in
       record {
         once = λ x. omega (arith, f .once x, M x);
         room = omega (arith, f .room, S);
@@ -112,14 +119,16 @@ module _ (n u m : ℕ) (o : Bool) where
   fits-taxon d w h l f e = record {
     once = λ x. one x (eqb d x) refl;
     room = omega (arith, h);
-    full = λ p. omega (arith, eqb-true (suc (size n u)) n (sym (ap (λ (b : Bool). b || eqb (suc (size n u)) n) p) ∙ e));
+    full = λ p. omega
+        (arith, eqb-true (suc (size n u)) n (sym (ap (λ (b : Bool). b || eqb (suc (size n u)) n) p) ∙ e));
   }
     where
       one : (x : ℕ) (b : Bool) → eqb d x ≡ b
           → tally (has u x) + tally (eqb d x) ≤ tally (ltb x n)
       one x true q =
           let z : has u x ≡ false = ap (has u) (sym (eqb-true d x q)) ∙ f in
-          let y : ltb x n ≡ true = lt-ltb x n (omega (arith, l, eqb-true d x q)) in
+          let y : ltb x n ≡ true = lt-ltb x n
+          (omega (arith, l, eqb-true d x q)) in
           rw (z, q, y) (omega arith)
       one x false q = rw q (omega (arith, w x))
 
@@ -135,9 +144,12 @@ module _ (n u m : ℕ) (o : Bool) where
       go : (b : Bool) → (o || eqb (suc (size n u)) n) ≡ b
           → has (pick b (less (full n) u) 0) d ≡ true → Fits n u m o (taxon d)
       go true p q =
-          let both : (has (full n) d && not (has u d)) ≡ true = sym (has-less (full n) u d) ∙ q in
-          let low : d < n = ltb-true d n (sym (has-ones n d) ∙ and-left (has (full n) d) (not (has u d)) both) in
-          fits-taxon d w h low (not-has (has u d) (and-right (has (full n) d) (not (has u d)) both)) p
+          let both : (has (full n) d && not (has u d)) ≡ true = sym
+          (has-less (full n) u d) ∙ q in
+          let low : d < n = ltb-true d n
+          (sym (has-ones n d) ∙ and-left (has (full n) d) (not (has u d)) both) in
+          fits-taxon d w h low
+          (not-has (has u d) (and-right (has (full n) d) (not (has u d)) both)) p
       go false p q = absurd (true≢false (sym q ∙ has-none d))
 
   pub allowed-low : (d : ℕ) → has (allowed n u o) d ≡ true → d < n
@@ -145,7 +157,8 @@ module _ (n u m : ℕ) (o : Bool) where
     where
       go : (b : Bool) → (o || eqb (suc (size n u)) n) ≡ b
           → has (pick b (less (full n) u) 0) d ≡ true → d < n
-      go true p q = ltb-true d n (sym (has-ones n d) ∙ and-left (has (full n) d) (not (has u d)) (sym (has-less (full n) u d) ∙ q))
+      go true p q = ltb-true d n
+          (sym (has-ones n d) ∙ and-left (has (full n) d) (not (has u d)) (sym (has-less (full n) u d) ∙ q))
       go false p q = absurd (true≢false (sym q ∙ has-none d))
 
   pub fits-allowed : (d : ℕ) → Fits n u m o (taxon d)
@@ -153,9 +166,12 @@ module _ (n u m : ℕ) (o : Bool) where
   unfolding times groups
   fits-allowed d f =
       let self : tally (eqb d d) ≡ 1 = ap tally (eq-eqb d d refl) in
-      let new : has u d ≡ false = tally-zero (has u d) (omega (arith, self, f .once d, tally-most (ltb d n))) in
-      let low : ltb d n ≡ true = one (ltb d n) (omega (arith, self, f .once d)) in
-      let in-full : has (less (full n) u) d ≡ true = has-less (full n) u d ∙ ap₂ (λ (p q : Bool). p && not q) (has-ones n d ∙ low) new in
+      let new : has u d ≡ false = tally-zero (has u d)
+      (omega (arith, self, f .once d, tally-most (ltb d n))) in
+      let low : ltb d n ≡ true = one (ltb d n)
+      (omega (arith, self, f .once d)) in
+      let in-full : has (less (full n) u) d ≡ true = has-less (full n) u d
+      ∙ ap₂ (λ (p q : Bool). p && not q) (has-ones n d ∙ low) new in
       go o refl in-full
     where
       one : (p : Bool) → 1 ≤ tally p → p ≡ true
@@ -165,7 +181,8 @@ module _ (n u m : ℕ) (o : Bool) where
       go : (b : Bool) → o ≡ b → has (less (full n) u) d ≡ true
           → has (allowed n u o) d ≡ true
       go true e q = rw e q
-      go false e q = rw (e, eq-eqb (suc (size n u)) n (omega (arith, f .full e))) q
+      go false e q = rw
+          (e, eq-eqb (suc (size n u)) n (omega (arith, f .full e))) q
 
 -- ---- what fits a slot fits one that asks for less
 pub fits-loose : (n u m k : ℕ) (o : Bool) (t : Member) → k ≤ m → Fits n u m o t
@@ -187,7 +204,8 @@ fits-each n t f x = go (ltb x n) refl
     go : (b : Bool) → ltb x n ≡ b → times x t ≡ tally b
     go true e =
         full-labels n t (λ y. omega (arith, le y, tally-most (ltb y n)))
-        (labels-all n t (λ y p. below-n n 0 0 false t f y p) ∙ omega (arith, f .full refl, size-none n)) x (ltb-true x n e)
+        (labels-all n t (λ y p. below-n n 0 0 false t f y p) ∙ omega (arith, f .full refl, size-none n)) x
+        (ltb-true x n e)
     go false e = omega (arith, rw e at (le x))
 
 pub each-fits : (n : ℕ) (t : Member) → ((x : ℕ) → times x t ≡ tally (ltb x n))
@@ -201,7 +219,8 @@ each-fits n t h = record {
 -- ---- how many are read
 pub size-wide : (n k u : ℕ) → n ≤ k → Within n u → size k u ≡ size n u
 unfolding size
-size-wide n zero u h w = let z : 0 ≡ n = omega (arith, h) in ap (λ (i : ℕ). size i u) z
+size-wide n zero u h w = let z : 0 ≡ n = omega (arith, h) in ap
+    (λ (i : ℕ). size i u) z
 size-wide n (suc k) u h w = go (eqb n (suc k)) refl (size-wide n k u)
   where
     go : (b : Bool) → eqb n (suc k) ≡ b
@@ -221,7 +240,8 @@ free (suc k) u h = go (free k u) (has u k) refl
         → has u k ≡ b → (d : ℕ) × (d < suc k) × (has u d ≡ false)
     go ih false e = (k, omega arith, e)
     go ih true e =
-        let l : tally true + size k u < suc k = subst (λ (b : Bool). tally b + size k u < suc k) e h in
+        let l : tally true + size k u < suc k = subst
+        (λ (b : Bool). tally b + size k u < suc k) e h in
         let q = ih (omega (arith, l)) in
         (q .0, omega (arith, q .1), q .2)
 
@@ -229,8 +249,10 @@ fill-by : (j n u m : ℕ) (o : Bool) → n ≤ size n u + j → Within n u
     → size n u + m < n → (o ≡ false → m ≡ 0) → (t : Member) × Fits n u m o t
 unfolding mark groups
 fill-by zero n u m o g w h z = absurd (omega arith)
-fill-by (suc j) n u m true g w h z = let f = free n u (omega arith) in (taxon (f .0), fits-taxon n u m true (f .0) w h (f .1) (f .2) refl)
-fill-by (suc j) n u m false g w h z = go (fill-by j) (free n u (omega arith)) (eqb (suc (size n u)) n) refl
+fill-by (suc j) n u m true g w h z = let f = free n u (omega arith) in
+    (taxon (f .0), fits-taxon n u m true (f .0) w h (f .1) (f .2) refl)
+fill-by (suc j) n u m false g w h z = go (fill-by j) (free n u (omega arith))
+    (eqb (suc (size n u)) n) refl
   where
     go : ((n u m : ℕ) (o : Bool) → n ≤ size n u + j → Within n u → size n u + m < n → (o ≡ false → m ≡ 0) → (t : Member) × Fits n u m o t)
         → (d : ℕ) × (d < n) × (has u d ≡ false) → (b : Bool)
@@ -238,10 +260,15 @@ fill-by (suc j) n u m false g w h z = go (fill-by j) (free n u (omega arith)) (e
     go ih f true q = (taxon (f .0), fits-taxon n u m false (f .0) w h (f .1) (f .2) q)
     go ih f false q =
         let m0 : m ≡ 0 = z refl in
-        let r : suc (size n u) < n = lt-of-le-ne (omega (arith, h)) (eqb-false (suc (size n u)) n q) in
-        let one = fits-taxon n u (suc m) true (f .0) w (omega (arith, m0, r)) (f .1) (f .2) refl in
-        let s : size n (add u (f .0)) ≡ size n u + 1 = mark-size n u (suc m) true (taxon (f .0)) one in
-        let rest = ih n (add u (f .0)) m false (omega (arith, g, s)) (mark-within n u (suc m) true (taxon (f .0)) one) (omega (arith, s, r, m0)) z in
+        let r : suc (size n u) < n = lt-of-le-ne (omega (arith, h))
+        (eqb-false (suc (size n u)) n q) in
+        let one = fits-taxon n u (suc m) true (f .0) w (omega (arith, m0, r))
+        (f .1) (f .2) refl in
+        let s : size n (add u (f .0)) ≡ size n u + 1 = mark-size n u
+        (suc m) true (taxon (f .0)) one in
+        let rest = ih n (add u (f .0)) m false (omega (arith, g, s))
+        (mark-within n u (suc m) true (taxon (f .0)) one)
+        (omega (arith, s, r, m0)) z in
         (group (taxon (f .0)) (rest .0), fits-group n u m false (taxon (f .0)) (rest .0) one (rest .1))
 
 pub fill : (n u m : ℕ) (o : Bool) → Within n u → size n u + m < n
@@ -281,7 +308,8 @@ pub settled : (t t′ : Member) (w w′ : List ℕ) → Below 100 t → Below 10
     → Over t w → Stop w′ → text t w ≡ text t′ w′ → (t ≡ t′) × (w ≡ w′)
 unfolding text times
 settled (taxon d) (taxon e) w w′ h k v s p =
-    let q = label-settled d e w w′ (h d (rw (eq-eqb d d refl) (omega arith))) (k e (rw (eq-eqb e e refl) (omega arith))) v (λ i j. s) p in
+    let q = label-settled d e w w′ (h d (rw (eq-eqb d d refl) (omega arith)))
+    (k e (rw (eq-eqb e e refl) (omega arith))) v (λ i j. s) p in
     (ap taxon (q .0), q .1)
 settled (taxon d) (group l r) w w′ h k v s p =
     let f = label-first d w (h d (rw (eq-eqb d d refl) (omega arith))) in
@@ -290,8 +318,14 @@ settled (group l r) (taxon e) w w′ h k v s p =
     let f = label-first e w′ (k e (rw (eq-eqb e e refl) (omega arith))) in
     absurd (omega (arith, f .3, head-is (p ∙ f .2)))
 settled (group l r) (group l′ r′) w w′ h k v s p =
-    let a = settled l l′ (comma ∷ text r (closes ∷ w)) (comma ∷ text r′ (closes ∷ w′)) (λ x q. h x (omega (arith, q))) (λ x q. k x (omega (arith, q))) (over-stop l _ (stop-at comma _ refl)) (stop-at comma _ refl) (tail-is p) in
-    let b = settled r r′ (closes ∷ w) (closes ∷ w′) (λ x q. h x (omega (arith, q))) (λ x q. k x (omega (arith, q))) (over-stop r _ (stop-at closes _ refl)) (stop-at closes _ refl) (tail-is (a .1)) in
+    let a = settled l l′ (comma ∷ text r (closes ∷ w))
+    (comma ∷ text r′ (closes ∷ w′)) (λ x q. h x (omega (arith, q)))
+    (λ x q. k x (omega (arith, q))) (over-stop l _ (stop-at comma _ refl))
+    (stop-at comma _ refl) (tail-is p) in
+    let b = settled r r′ (closes ∷ w) (closes ∷ w′)
+    (λ x q. h x (omega (arith, q))) (λ x q. k x (omega (arith, q)))
+    (over-stop r _ (stop-at closes _ refl)) (stop-at closes _ refl)
+    (tail-is (a .1)) in
     (ap₂ group (a .0) (b .0), tail-is (b .1))
 
 pub next-stop : (w : List ℕ) → Next w → Stop w
@@ -306,5 +340,6 @@ next-at b w e = stop-at b w e
 -- a member's text is not empty
 pub text-some : (t : Member) (w : List ℕ) → Below 100 t → [] ≡ text t w → ⊥
 unfolding text times
-text-some (taxon d) w h p = let f = label-first d w (h d (rw (eq-eqb d d refl) (omega arith))) in nil-cons (p ∙ f .2)
+text-some (taxon d) w h p = let f = label-first d w
+    (h d (rw (eq-eqb d d refl) (omega arith))) in nil-cons (p ∙ f .2)
 text-some (group l r) w h p = nil-cons p

@@ -33,33 +33,49 @@ both : (a b : Member) (i j : ℕ) (u v : List ℕ) → Below 100 a → Below 100
     → digit i ≡ false → digit j ≡ false → text a (i ∷ u) ≡ text b (j ∷ v)
     → (a ≡ b) × (i ≡ j) × (u ≡ v)
 both a b i j u v h k p q e =
-    let w = settled a b (i ∷ u) (j ∷ v) h k (over-stop a (i ∷ u) (stop-at i u p)) (stop-at j v q) e in
+    let w = settled a b (i ∷ u) (j ∷ v) h k
+    (over-stop a (i ∷ u) (stop-at i u p)) (stop-at j v q) e in
     (w .0, head-is (w .1), tail-is (w .1))
 
 module _ (n : ℕ) (few : n ≤ 64) where
   low : (t : Member) (o : Outermost) → EachOnce n o
       → ((x : ℕ) → times x t ≤ timesIn x o) → Below 100 t
-  low t o h k x p = omega (arith, few, low-some n x (times x t) p (omega (arith, h x, k x)))
+  low t o h k x p = omega
+      (arith, few, low-some n x (times x t) p (omega (arith, h x, k x)))
 
   one-tree : (o q : Outermost) → EachOnce n o → EachOnce n q → whole o ≡ whole q
       → o ≡ q
   unfolding whole timesIn
   one-tree (two a b) (two c d) h k e =
-      let w = both a c comma comma _ _ (low a (two a b) h (λ x. omega arith)) (low c (two c d) k (λ x. omega arith)) refl refl (tail-is e) in
-      let v = both b d closes closes _ _ (low b (two a b) h (λ x. omega arith)) (low d (two c d) k (λ x. omega arith)) refl refl (w .2) in
+      let w = both a c comma comma _ _ (low a (two a b) h (λ x. omega arith))
+      (low c (two c d) k (λ x. omega arith)) refl refl (tail-is e) in
+      let v = both b d closes closes _ _ (low b (two a b) h (λ x. omega arith))
+      (low d (two c d) k (λ x. omega arith)) refl refl (w .2) in
       ap₂ two (w .0) (v .0)
   one-tree (two a b) (three c d f) h k e =
-      let w = both a c comma comma _ _ (low a (two a b) h (λ x. omega arith)) (low c (three c d f) k (λ x. omega arith)) refl refl (tail-is e) in
-      let v = both b d closes comma _ _ (low b (two a b) h (λ x. omega arith)) (low d (three c d f) k (λ x. omega arith)) refl refl (w .2) in
+      let w = both a c comma comma _ _ (low a (two a b) h (λ x. omega arith))
+      (low c (three c d f) k (λ x. omega arith)) refl refl (tail-is e) in
+      let v = both b d closes comma _ _ (low b (two a b) h (λ x. omega arith))
+      (low d (three c d f) k (λ x. omega arith)) refl refl (w .2) in
       absurd (omega (arith, v .1))
   one-tree (three a b c) (two d f) h k e =
-      let w = both a d comma comma _ _ (low a (three a b c) h (λ x. omega arith)) (low d (two d f) k (λ x. omega arith)) refl refl (tail-is e) in
-      let v = both b f comma closes _ _ (low b (three a b c) h (λ x. omega arith)) (low f (two d f) k (λ x. omega arith)) refl refl (w .2) in
+      let w = both a d comma comma _ _
+      (low a (three a b c) h (λ x. omega arith))
+      (low d (two d f) k (λ x. omega arith)) refl refl (tail-is e) in
+      let v = both b f comma closes _ _
+      (low b (three a b c) h (λ x. omega arith))
+      (low f (two d f) k (λ x. omega arith)) refl refl (w .2) in
       absurd (omega (arith, v .1))
   one-tree (three a b c) (three d f g) h k e =
-      let w = both a d comma comma _ _ (low a (three a b c) h (λ x. omega arith)) (low d (three d f g) k (λ x. omega arith)) refl refl (tail-is e) in
-      let v = both b f comma comma _ _ (low b (three a b c) h (λ x. omega arith)) (low f (three d f g) k (λ x. omega arith)) refl refl (w .2) in
-      let u = both c g closes closes _ _ (low c (three a b c) h (λ x. omega arith)) (low g (three d f g) k (λ x. omega arith)) refl refl (v .2) in
+      let w = both a d comma comma _ _
+      (low a (three a b c) h (λ x. omega arith))
+      (low d (three d f g) k (λ x. omega arith)) refl refl (tail-is e) in
+      let v = both b f comma comma _ _
+      (low b (three a b c) h (λ x. omega arith))
+      (low f (three d f g) k (λ x. omega arith)) refl refl (w .2) in
+      let u = both c g closes closes _ _
+      (low c (three a b c) h (λ x. omega arith))
+      (low g (three d f g) k (λ x. omega arith)) refl refl (v .2) in
       three-same (w .0) (v .0) (u .0)
     where
       three-same : {a b c d f g : Member} → a ≡ d → b ≡ f → c ≡ g
@@ -78,7 +94,8 @@ shorter n s i j h (w, t) = (
 
 not-before : (n : ℕ) (s : List ℕ) (p q : ℕ) → NoTree n s p → NoTree n s q
     → p < q → ⊥
-not-before n s p q a b h = a .there (omega (arith, h, b .inside)) (shorter n s (suc p) q h (b .before))
+not-before n s p q a b h = a .there (omega (arith, h, b .inside))
+    (shorter n s (suc p) q h (b .before))
 
 pub one-place : (n : ℕ) (s : List ℕ) (p q : ℕ) → NoTree n s p → NoTree n s q
     → p ≡ q
@@ -97,29 +114,43 @@ reads-one n s room h k (of-count a e) (of-text r q b f) = absurd (a r)
 reads-one n s room h k (of-count a e) (of-room r b l f) = absurd (a r)
 reads-one n s room h k (of-count a e) (of-tree r o b l f) = absurd (a r)
 reads-one n s room h k (of-text r p a e) (of-count b f) = absurd (b r)
-reads-one n s room h k (of-text r p a e) (of-text x q b f) = e ∙ ap (refusesAt 14) (one-place n s p q a b) ∙ sym f
+reads-one n s room h k (of-text r p a e) (of-text x q b f) = e
+    ∙ ap (refusesAt 14) (one-place n s p q a b) ∙ sym f
 reads-one n s room h k (of-text r p a e) (of-room x b l f) = absurd (a .none b)
-reads-one n s room h k (of-text r p a e) (of-tree x o b l f) = absurd (a .none (o, b))
+reads-one n s room h k (of-text r p a e) (of-tree x o b l f) = absurd
+    (a .none (o, b))
 reads-one n s room h k (of-room r a l e) (of-count b f) = absurd (b r)
 reads-one n s room h k (of-room r a l e) (of-text x q b f) = absurd (b .none a)
 reads-one n s room h k (of-room r a l e) (of-room x b m f) = e ∙ sym f
-reads-one n s room h k (of-room r a l e) (of-tree x o b m f) = absurd (omega (arith, l, m))
+reads-one n s room h k (of-room r a l e) (of-tree x o b m f) = absurd
+    (omega (arith, l, m))
 reads-one n s room h k (of-tree r o a l e) (of-count b f) = absurd (b r)
-reads-one n s room h k (of-tree r o a l e) (of-text x q b f) = absurd (b .none (o, a))
-reads-one n s room h k (of-tree r o a l e) (of-room x b m f) = absurd (omega (arith, l, m))
+reads-one n s room h k (of-tree r o a l e) (of-text x q b f) = absurd
+    (b .none (o, a))
+reads-one n s room h k (of-tree r o a l e) (of-room x b m f) = absurd
+    (omega (arith, l, m))
 reads-one n s room h k (of-tree r o a l e) (of-tree x q b m f) =
-    e ∙ ap (λ (w : Outermost). gives (table n w)) (one-tree n (r .1) o q (a .each) (b .each) (sym (a .is) ∙ b .is)) ∙ sym f
+    e ∙ ap (λ (w : Outermost). gives (table n w))
+    (one-tree n (r .1) o q (a .each) (b .each) (sym (a .is) ∙ b .is))
+    ∙ sym f
 
 -- ---- one answer, and one state of the lent table
 reading-one : (a b : Reading) → readingSays a ≡ readingSays b → a ≡ b
 reading-one reading.Table reading.Table h = refl
-reading-one reading.Table (reading.Refused r) h = absurd (let z : _≡_ {A = ℕ} 0 1 = cc in omega arith)
-reading-one reading.Table (reading.RefusedAt r p) h = absurd (let z : _≡_ {A = ℕ} 0 1 = cc in omega arith)
-reading-one (reading.Refused r) reading.Table h = absurd (let z : _≡_ {A = ℕ} 0 1 = cc in omega arith)
-reading-one (reading.Refused r) (reading.Refused q) h = let e : numberOf r ≡ numberOf q = cc in ap reading.Refused (number-one r q e)
-reading-one (reading.Refused r) (reading.RefusedAt q p) h = absurd (let z : _≡_ {A = ℕ} 0 1 = cc in omega arith)
-reading-one (reading.RefusedAt r p) reading.Table h = absurd (let z : _≡_ {A = ℕ} 0 1 = cc in omega arith)
-reading-one (reading.RefusedAt r p) (reading.Refused q) h = absurd (let z : _≡_ {A = ℕ} 0 1 = cc in omega arith)
+reading-one reading.Table (reading.Refused r) h = absurd
+    (let z : _≡_ {A = ℕ} 0 1 = cc in omega arith)
+reading-one reading.Table (reading.RefusedAt r p) h = absurd
+    (let z : _≡_ {A = ℕ} 0 1 = cc in omega arith)
+reading-one (reading.Refused r) reading.Table h = absurd
+    (let z : _≡_ {A = ℕ} 0 1 = cc in omega arith)
+reading-one (reading.Refused r) (reading.Refused q) h = let e : numberOf r ≡ numberOf q = cc in ap reading.Refused
+    (number-one r q e)
+reading-one (reading.Refused r) (reading.RefusedAt q p) h = absurd
+    (let z : _≡_ {A = ℕ} 0 1 = cc in omega arith)
+reading-one (reading.RefusedAt r p) reading.Table h = absurd
+    (let z : _≡_ {A = ℕ} 0 1 = cc in omega arith)
+reading-one (reading.RefusedAt r p) (reading.Refused q) h = absurd
+    (let z : _≡_ {A = ℕ} 0 1 = cc in omega arith)
 reading-one (reading.RefusedAt r p) (reading.RefusedAt q x) h =
     let e : numberOf r ≡ numberOf q = cc in
     let f : p ≡ x = cc in
@@ -128,15 +159,19 @@ reading-one (reading.RefusedAt r p) (reading.RefusedAt q x) h =
 pub plants-one : (n : ℕ) (s out : List ℕ) (a b : Reading) (p q : List ℕ)
     → Plants n s out a p → Plants n s out b q → (a ≡ b) × (p ≡ q)
 plants-one n s out a b p q x y =
-    let e : x .heard ≡ y .heard = reads-one n s (length out) (x .heard) (y .heard) (x .by) (y .by) in
+    let e : x .heard ≡ y .heard = reads-one n s (length out) (x .heard)
+    (y .heard) (x .by) (y .by) in
     (reading-one a b (x .says ∙ ap told e ∙ sym (y .says)), x .memory ∙ ap (λ (h : Heard (List ℕ)). planted h out) e ∙ sym (y .memory))
 
 -- ---- the table that is given is valid, and is given for trees alone
 pub reads-valid : (n : ℕ) (s : List ℕ) (room : ℕ) (t : List ℕ)
     → Reads n s room (gives t) → Accepted n t
-reads-valid n s room t (of-count a e) = absurd (let z : _≡_ {A = ℕ} 0 1 = cc in omega arith)
-reads-valid n s room t (of-text r p a e) = absurd (let z : _≡_ {A = ℕ} 0 1 = cc in omega arith)
-reads-valid n s room t (of-room r a l e) = absurd (let z : _≡_ {A = ℕ} 0 1 = cc in omega arith)
+reads-valid n s room t (of-count a e) = absurd
+    (let z : _≡_ {A = ℕ} 0 1 = cc in omega arith)
+reads-valid n s room t (of-text r p a e) = absurd
+    (let z : _≡_ {A = ℕ} 0 1 = cc in omega arith)
+reads-valid n s room t (of-room r a l e) = absurd
+    (let z : _≡_ {A = ℕ} 0 1 = cc in omega arith)
 reads-valid n s room t (of-tree r o a l e) =
     let f : t ≡ table n o = cc in
     record { few = r .1; valid = subst (λ (u : List ℕ). Valid n u) (sym f) (table-valid n o (r .0) (a .each)) }
@@ -149,6 +184,7 @@ reads-iff n s room r l = (λ (t, q). to t q, λ (o, a). (table n o, of-tree r o 
   where
     to : (t : List ℕ) → Reads n s room (gives t) → IsTree n s
     to t (of-count a e) = absurd (a r)
-    to t (of-text x p a e) = absurd (let z : _≡_ {A = ℕ} 0 1 = cc in omega arith)
+    to t (of-text x p a e) = absurd
+        (let z : _≡_ {A = ℕ} 0 1 = cc in omega arith)
     to t (of-room x a m e) = a
     to t (of-tree x o a m e) = (o, a)

@@ -61,18 +61,22 @@ first-fits : (n : ℕ) (a : Member) (x : List ℕ) → AfterFirst n a x
     → Fits n 0 1 true a
 first-fits n a x (of-two b h e) = fits-left n 0 0 false a b (two-fits n a b h)
 first-fits n a x (of-three b c h e) =
-    fits-loose n 0 2 1 true a (omega arith) (fits-left n 0 1 true a b (fits-left n 0 0 false (group a b) c (three-fits n a b c h)))
+    fits-loose n 0 2 1 true a (omega arith)
+    (fits-left n 0 1 true a b (fits-left n 0 0 false (group a b) c (three-fits n a b c h)))
 
 second-fits : (n : ℕ) (a b : Member) (x : List ℕ) → AfterSecond n a b x
     → Fits n (mark a 0) 0 true b
-second-fits n a b x (of-two h e) = fits-loose n (mark a 0) 0 0 false b (omega arith) (fits-right n 0 0 false a b (two-fits n a b h))
+second-fits n a b x (of-two h e) = fits-loose n (mark a 0) 0 0 false b
+    (omega arith) (fits-right n 0 0 false a b (two-fits n a b h))
 second-fits n a b x (of-three c h e) =
-    fits-loose n (mark a 0) 1 0 true b (omega arith) (fits-right n 0 1 true a b (fits-left n 0 0 false (group a b) c (three-fits n a b c h)))
+    fits-loose n (mark a 0) 1 0 true b (omega arith)
+    (fits-right n 0 1 true a b (fits-left n 0 0 false (group a b) c (three-fits n a b c h)))
 
 third-fits : (n : ℕ) (a b c : Member) → EachOnce n (three a b c)
     → Fits n (mark b (mark a 0)) 0 false c
 unfolding mark
-third-fits n a b c h = fits-right n 0 0 false (group a b) c (three-fits n a b c h)
+third-fits n a b c h = fits-right n 0 0 false (group a b) c
+    (three-fits n a b c h)
 
 -- each begins with no digit
 first-stop : (n : ℕ) (a : Member) (x : List ℕ) → AfterFirst n a x → Stop x
@@ -88,8 +92,10 @@ module _ (n : ℕ) (few : n ≤ 64) (s : List ℕ) where
   pub no-open : 4 ≤ n → here s 0 opens ≡ false → NoTree n s 0
   unfolding whole groups
   no-open big e =
-      let f = fill n 0 0 false (λ x. omega (arith, ap tally (has-none x))) (omega (arith, size-none n, big)) (λ q. refl) in
-      expect n s 0 (omega arith) opens (some (f .0) (f .1)) (λ x a t. begins x (t .0) (t .1 .is)) e
+      let f = fill n 0 0 false (λ x. omega (arith, ap tally (has-none x)))
+      (omega (arith, size-none n, big)) (λ q. refl) in
+      expect n s 0 (omega arith) opens (some (f .0) (f .1))
+      (λ x a t. begins x (t .0) (t .1 .is)) e
     where
       begins : (x : List ℕ) (o : Outermost) → x ≡ whole o
           → (y : List ℕ) × (x ≡ opens ∷ y)
@@ -139,7 +145,8 @@ module _ (n : ℕ) (few : n ≤ 64) (s : List ℕ) where
         is = q .2;
       };
       fills = λ a f.
-          let g = fill n (mark a 0) 0 false (mark-within n 0 1 true a f) (omega (arith, mark-size n 0 1 true a f, f .room)) (λ e. refl) in
+          let g = fill n (mark a 0) 0 false (mark-within n 0 1 true a f)
+          (omega (arith, mark-size n 0 1 true a f, f .room)) (λ e. refl) in
           (comma ∷ text (g .0) (closes ∷ semicolon ∷ []), to-two a (g .0) (fits-group n 0 0 false a (g .0) f (g .1)));
     }
       where
@@ -152,13 +159,18 @@ module _ (n : ℕ) (few : n ≤ 64) (s : List ℕ) where
           → AfterFirst n a x
       after-first x v t =
           let q = opened (text a x) (as-tree n (A .is x) t) in
-          let e = settled a (q .0) x (q .1) (below n 0 1 true a few (A .fits)) (below n 0 1 true (q .0) few (first-fits n (q .0) (q .1) (q .3))) v (first-stop n (q .0) (q .1) (q .3)) (q .2) in
-          subst (λ (y : List ℕ). AfterFirst n a y) (sym (e .1)) (subst (λ (m : Member). AfterFirst n m (q .1)) (sym (e .0)) (q .3))
+          let e = settled a (q .0) x (q .1) (below n 0 1 true a few (A .fits))
+          (below n 0 1 true (q .0) few (first-fits n (q .0) (q .1) (q .3))) v
+          (first-stop n (q .0) (q .1) (q .3)) (q .2) in
+          subst (λ (y : List ℕ). AfterFirst n a y) (sym (e .1))
+          (subst (λ (m : Member). AfterFirst n m (q .1)) (sym (e .0)) (q .3))
 
       -- after the first member a comma follows
       pub no-first-comma : here s p comma ≡ false → NoTree n s p
       no-first-comma e =
-          let g = fill n (mark a 0) 0 false (mark-within n 0 1 true a (A .fits)) (omega (arith, mark-size n 0 1 true a (A .fits), A .fits .room)) (λ z. refl) in
+          let g = fill n (mark a 0) 0 false (mark-within n 0 1 true a (A .fits))
+          (omega (arith, mark-size n 0 1 true a (A .fits), A .fits .room))
+          (λ z. refl) in
           expect n s p (A .inside) comma
           (comma ∷ text (g .0) (closes ∷ semicolon ∷ []), as-tree n (sym (A .is _)) (to-two a (g .0) (fits-group n 0 0 false a (g .0) (A .fits) (g .1))))
           (λ x c t. comma-first x (after-first x (over-agrees a s p x (A .over) c) t)) e
@@ -176,7 +188,8 @@ module _ (n : ℕ) (few : n ≤ 64) (s : List ℕ) where
 
         between : (x : List ℕ) → IsTree n (take (p + 1) s ++ x)
             → (b : Member) × (w : List ℕ) × (x ≡ text b w) × AfterSecond n a b w
-        between x t = go (after-first (comma ∷ x) (over-stop a (comma ∷ x) (stop-at comma x refl)) (as-tree n (here-step s p comma c x) t))
+        between x t = go
+            (after-first (comma ∷ x) (over-stop a (comma ∷ x) (stop-at comma x refl)) (as-tree n (here-step s p comma c x) t))
           where
             go : AfterFirst n a (comma ∷ x)
                 → (b : Member) × (w : List ℕ) × (x ≡ text b w) × AfterSecond n a b w
@@ -186,7 +199,9 @@ module _ (n : ℕ) (few : n ≤ 64) (s : List ℕ) where
         -- a second member that fits goes on to a tree of two members or three
         with-two : (b : Member) → Fits n (mark a 0) 0 false b
             → IsTree n (take (p + 1) s ++ text b (closes ∷ semicolon ∷ []))
-        with-two b f = as-tree n (sym (passed (text b (closes ∷ semicolon ∷ [])))) (to-two a b (fits-group n 0 0 false a b (A .fits) f))
+        with-two b f = as-tree n
+            (sym (passed (text b (closes ∷ semicolon ∷ []))))
+            (to-two a b (fits-group n 0 0 false a b (A .fits) f))
 
         all-three : (b d : Member) → Fits n (mark a 0) 0 true b
             → Fits n (mark b (mark a 0)) 0 false d
@@ -196,12 +211,15 @@ module _ (n : ℕ) (few : n ≤ 64) (s : List ℕ) where
             let S = mark-size n (mark a 0) 0 true b f in
             let f1 : Fits n (mark a 0) 1 true b = record { once = f .once; room = omega (arith, S, g .room); full = λ e. absurd (true≢false e) } in
             let a2 : Fits n 0 2 true a = record { once = A .fits .once; room = omega (arith, mark-size n 0 1 true a (A .fits), f1 .room); full = λ e. absurd (true≢false e) } in
-            fits-group n 0 0 false (group a b) d (fits-group n 0 1 true a b a2 f1) g
+            fits-group n 0 0 false (group a b) d
+            (fits-group n 0 1 true a b a2 f1) g
 
         with-three : (b d : Member) → Fits n (mark a 0) 0 true b
             → Fits n (mark b (mark a 0)) 0 false d
             → IsTree n (take (p + 1) s ++ text b (comma ∷ text d (closes ∷ semicolon ∷ [])))
-        with-three b d f g = as-tree n (sym (passed (text b (comma ∷ text d (closes ∷ semicolon ∷ []))))) (to-three a b d (all-three b d f g))
+        with-three b d f g = as-tree n
+            (sym (passed (text b (comma ∷ text d (closes ∷ semicolon ∷ [])))))
+            (to-three a b d (all-three b d f g))
 
         -- no taxon is left after it, or some are
         last-fits : (b : Member) → Fits n (mark a 0) 0 true b
@@ -216,7 +234,9 @@ module _ (n : ℕ) (few : n ≤ 64) (s : List ℕ) where
             → size n (mark b (mark a 0)) < n
             → (d : Member) × IsTree n (take (p + 1) s ++ text b (comma ∷ text d (closes ∷ semicolon ∷ [])))
         goes-three b f h =
-            let g = fill n (mark b (mark a 0)) 0 false (mark-within n (mark a 0) 0 true b f) (omega (arith, h)) (λ z. refl) in
+            let g = fill n (mark b (mark a 0)) 0 false
+            (mark-within n (mark a 0) 0 true b f) (omega (arith, h))
+            (λ z. refl) in
             (g .0, with-three b (g .0) f (g .1))
 
         pub second-slot : Slot n s (p + 1) (mark a 0) 0 true
@@ -245,7 +265,8 @@ module _ (n : ℕ) (few : n ≤ 64) (s : List ℕ) where
                 → (w : List ℕ) × IsTree n (take (p + 1) s ++ text b w)
             on b f true e = (closes ∷ semicolon ∷ [], with-two b (last-fits b f (eqb-true _ n e)))
             on b f false e =
-                let most : size n (mark b (mark a 0)) ≤ n = omega (arith, mark-size n (mark a 0) 0 true b f, f .room) in
+                let most : size n (mark b (mark a 0)) ≤ n = omega
+                (arith, mark-size n (mark a 0) 0 true b f, f .room) in
                 let g = goes-three b f (lt-of-le-ne most (eqb-false _ n e)) in
                 (comma ∷ text (g .0) (closes ∷ semicolon ∷ []), g .1)
 
@@ -254,18 +275,24 @@ module _ (n : ℕ) (few : n ≤ 64) (s : List ℕ) where
               → AfterSecond n a b x
           after-second x v t =
               let r = between (text b x) (as-tree n (B .is x) t) in
-              let e = settled b (r .0) x (r .1) (below n (mark a 0) 0 true b few (B .fits)) (below n (mark a 0) 0 true (r .0) few (second-fits n a (r .0) (r .1) (r .3))) v (second-stop n a (r .0) (r .1) (r .3)) (r .2) in
-              subst (λ (y : List ℕ). AfterSecond n a b y) (sym (e .1)) (subst (λ (m : Member). AfterSecond n a m (r .1)) (sym (e .0)) (r .3))
+              let e = settled b (r .0) x (r .1)
+              (below n (mark a 0) 0 true b few (B .fits))
+              (below n (mark a 0) 0 true (r .0) few (second-fits n a (r .0) (r .1) (r .3))) v
+              (second-stop n a (r .0) (r .1) (r .3)) (r .2) in
+              subst (λ (y : List ℕ). AfterSecond n a b y) (sym (e .1))
+              (subst (λ (m : Member). AfterSecond n a m (r .1)) (sym (e .0)) (r .3))
 
           sizes : size n (mark b (mark a 0)) ≡ groups a + groups b + 2
-          sizes = omega (arith, mark-size n (mark a 0) 0 true b (B .fits), mark-size n 0 1 true a (A .fits), size-none n)
+          sizes = omega
+              (arith, mark-size n (mark a 0) 0 true b (B .fits), mark-size n 0 1 true a (A .fits), size-none n)
 
           -- no taxon is left: the group closes
           module _ (none : size n (mark b (mark a 0)) ≡ n) where
             ends-two : (x : List ℕ) → AfterSecond n a b x
                 → x ≡ closes ∷ semicolon ∷ []
             ends-two x (of-two k e) = e
-            ends-two x (of-three d k e) = absurd (omega (arith, three-total n a b d k, sizes, none))
+            ends-two x (of-three d k e) = absurd
+                (omega (arith, three-total n a b d k, sizes, none))
 
             pub no-two-close : here s q closes ≡ false → NoTree n s q
             no-two-close e =
@@ -278,16 +305,22 @@ module _ (n : ℕ) (few : n ≤ 64) (s : List ℕ) where
             unfolding whole
             two-closing e = record {
               inside = omega (arith, here-in s q closes e);
-              each = fits-two n a b (fits-group n 0 0 false a b (A .fits) (last-fits b (B .fits) none));
-              is = here-step s q closes e (semicolon ∷ []) ∙ B .is (closes ∷ semicolon ∷ []) ∙ passed (text b (closes ∷ semicolon ∷ [])) ∙ here-step s 0 opens h _;
-              only = λ x t. tail-is (ends-two (closes ∷ x) (after-second (closes ∷ x) (over-stop b (closes ∷ x) (stop-at closes x refl)) (as-tree n (here-step s q closes e x) t)));
+              each = fits-two n a b
+                  (fits-group n 0 0 false a b (A .fits) (last-fits b (B .fits) none));
+              is = here-step s q closes e (semicolon ∷ [])
+                  ∙ B .is (closes ∷ semicolon ∷ [])
+                  ∙ passed (text b (closes ∷ semicolon ∷ []))
+                  ∙ here-step s 0 opens h _;
+              only = λ x t. tail-is
+                  (ends-two (closes ∷ x) (after-second (closes ∷ x) (over-stop b (closes ∷ x) (stop-at closes x refl)) (as-tree n (here-step s q closes e x) t)));
             }
 
           -- some are left: a third member follows
           module _ (some : size n (mark b (mark a 0)) < n) where
             ends-three : (x : List ℕ) → AfterSecond n a b x
                 → (d : Member) × EachOnce n (three a b d) × (x ≡ comma ∷ text d (closes ∷ semicolon ∷ []))
-            ends-three x (of-two k e) = absurd (omega (arith, two-total n a b k, sizes, some))
+            ends-three x (of-two k e) = absurd
+                (omega (arith, two-total n a b k, sizes, some))
             ends-three x (of-three d k e) = (d, k, e)
 
             pub no-second-comma : here s q comma ≡ false → NoTree n s q
@@ -302,12 +335,14 @@ module _ (n : ℕ) (few : n ≤ 64) (s : List ℕ) where
               thence : (x : List ℕ) → IsTree n (take (q + 1) s ++ x)
                   → (d : Member) × EachOnce n (three a b d) × (x ≡ text d (closes ∷ semicolon ∷ []))
               thence x t =
-                  let r = ends-three (comma ∷ x) (after-second (comma ∷ x) (over-stop b (comma ∷ x) (stop-at comma x refl)) (as-tree n (here-step s q comma k x) t)) in
+                  let r = ends-three (comma ∷ x)
+                  (after-second (comma ∷ x) (over-stop b (comma ∷ x) (stop-at comma x refl)) (as-tree n (here-step s q comma k x) t)) in
                   (r .0, r .1, tail-is (r .2))
 
               by-three : (d : Member) → Fits n (mark b (mark a 0)) 0 false d
                   → IsTree n (take (q + 1) s ++ text d (closes ∷ semicolon ∷ []))
-              by-three d f = as-tree n (sym (here-step s q comma k _ ∙ B .is _)) (with-three b d (B .fits) f)
+              by-three d f = as-tree n (sym (here-step s q comma k _ ∙ B .is _))
+                  (with-three b d (B .fits) f)
 
               pub third-slot : Slot n s (q + 1) (mark b (mark a 0)) 0 false
               third-slot = record {
@@ -330,7 +365,10 @@ module _ (n : ℕ) (few : n ≤ 64) (s : List ℕ) where
                     → x ≡ closes ∷ semicolon ∷ []
                 ends-here x v t =
                     let f = thence (text d x) (as-tree n (D .is x) t) in
-                    settled d (f .0) x (closes ∷ semicolon ∷ []) (below n (mark b (mark a 0)) 0 false d few (D .fits)) (below n (mark b (mark a 0)) 0 false (f .0) few (third-fits n a b (f .0) (f .1))) v (stop-at closes _ refl) (f .2) .1
+                    settled d (f .0) x (closes ∷ semicolon ∷ [])
+                    (below n (mark b (mark a 0)) 0 false d few (D .fits))
+                    (below n (mark b (mark a 0)) 0 false (f .0) few (third-fits n a b (f .0) (f .1))) v
+                    (stop-at closes _ refl) (f .2) .1
 
                 pub no-three-close : here s r closes ≡ false → NoTree n s r
                 no-three-close e =
@@ -344,28 +382,36 @@ module _ (n : ℕ) (few : n ≤ 64) (s : List ℕ) where
                 three-closing e = record {
                   inside = omega (arith, here-in s r closes e);
                   each = fits-three n a b d (all-three b d (B .fits) (D .fits));
-                  is = here-step s r closes e (semicolon ∷ []) ∙ D .is (closes ∷ semicolon ∷ []) ∙ here-step s q comma k _ ∙ B .is _ ∙ passed _ ∙ here-step s 0 opens h _;
-                  only = λ x t. tail-is (ends-here (closes ∷ x) (over-stop d (closes ∷ x) (stop-at closes x refl)) (as-tree n (here-step s r closes e x) t));
+                  is = here-step s r closes e (semicolon ∷ [])
+                      ∙ D .is (closes ∷ semicolon ∷ [])
+                      ∙ here-step s q comma k _ ∙ B .is _ ∙ passed _
+                      ∙ here-step s 0 opens h _;
+                  only = λ x t. tail-is
+                      (ends-here (closes ∷ x) (over-stop d (closes ∷ x) (stop-at closes x refl)) (as-tree n (here-step s r closes e x) t));
                 }
 
 -- ---- the semicolon and the end
 module _ (n : ℕ) (s : List ℕ) (p : ℕ) (o : Outermost) (C : Closing n s p o) where
   pub no-semicolon : here s p semicolon ≡ false → NoTree n s p
   no-semicolon e =
-      expect n s p (C .inside) semicolon (semicolon ∷ [], (o, record { each = C .each; is = C .is })) (λ x a t. ([], C .only x t)) e
+      expect n s p (C .inside) semicolon (semicolon ∷ [], (o, record { each = C .each; is = C .is }))
+      (λ x a t. ([], C .only x t)) e
 
   module _ (e : here s p semicolon ≡ true) where
     -- any byte after the semicolon is one too many
     pub more-after : p + 1 < length s → NoTree n s (p + 1)
-    more-after h = stuck n s (p + 1) (omega (arith, h)) ([], (o, record { each = C .each; is = here-step s p semicolon e [] ∙ C .is })) dead
+    more-after h = stuck n s (p + 1) (omega (arith, h))
+        ([], (o, record { each = C .each; is = here-step s p semicolon e [] ∙ C .is })) dead
       where
         dead : (x : List ℕ) → Agrees s (p + 1) x
             → IsTree n (take (p + 1) s ++ x) → ⊥
         dead x (ended l i) t = omega (arith, l, h)
-        dead x (byte l y i) t = nil-cons (sym (tail-is (C .only (semicolon ∷ x) (as-tree n (here-step s p semicolon e x) t))) ∙ i)
+        dead x (byte l y i) t = nil-cons
+            (sym (tail-is (C .only (semicolon ∷ x) (as-tree n (here-step s p semicolon e x) t))) ∙ i)
 
     pub whole-text : length s ≤ p + 1 → Stands n s o
     whole-text h = record {
       each = C .each;
-      is = sym (append-nil (take (p + 1) s) ∙ take-all (p + 1) s h) ∙ here-step s p semicolon e [] ∙ C .is;
+      is = sym (append-nil (take (p + 1) s) ∙ take-all (p + 1) s h)
+          ∙ here-step s p semicolon e [] ∙ C .is;
     }

@@ -21,7 +21,8 @@ use Rattle.reader.specs.Promises.{gives, refuses, refusesAt, Right, of-c
 take-zeros : (k m : ℕ) → k ≤ m → take {A = ℕ} k (replicate m 0) ≡ replicate k 0
 take-zeros zero m h = refl
 take-zeros (suc k) zero h = absurd (omega (arith, h))
-take-zeros (suc k) (suc m) h = ap (λ (l : List ℕ). 0 ∷ l) (take-zeros k m (omega (arith, h)))
+take-zeros (suc k) (suc m) h = ap (λ (l : List ℕ). 0 ∷ l)
+    (take-zeros k m (omega (arith, h)))
 
 pub zeros-blank : (n : ℕ) → n ≤ most → take {A = ℕ} (2 * rows n) (replicate 250 0) ≡ blank n
 zeros-blank n few = take-zeros (2 * rows n) 250 (omega (arith, few))
@@ -46,7 +47,8 @@ module _ (n : ℕ) (s out : List ℕ) where
           → Plants n s out (reading.Refused Room) out
       no-room h = record {
         heard = refuses 11;
-        by = of-room right (whole .0, whole .1) (omega (arith, h, length-is)) refl;
+        by = of-room right (whole .0, whole .1)
+            (omega (arith, h, length-is)) refl;
         says = refl;
         memory = refl;
       }
@@ -56,7 +58,9 @@ module _ (n : ℕ) (s out : List ℕ) where
           → Plants n s out reading.Table u
       tree-given h u q = record {
         heard = gives (table n (whole .0));
-        by = of-tree right (whole .0) (whole .1) (omega (arith, h, length-is)) refl;
+        by = of-tree right (whole .0) (whole .1)
+            (omega (arith, h, length-is)) refl;
         says = refl;
-        memory = q ∙ ap₂ _++_ (take-all (length t) t (omega arith) ∙ whole .2) (ap (λ (l : List ℕ). drop (length l) out) (whole .2));
+        memory = q ∙ ap₂ _++_ (take-all (length t) t (omega arith) ∙ whole .2)
+            (ap (λ (l : List ℕ). drop (length l) out) (whole .2));
       }

@@ -36,25 +36,29 @@ module _ (n : ℕ) (few : n ≤ 64) (s : List ℕ) (at u m : ℕ) (o : Bool) (S 
     where
       no : (x : List ℕ) → Agrees s at x → Onward n u m o x → ⊥
       no x (byte l y e) q = absurd (omega (arith, h, l))
-      no x (ended l e) q = text-some (q .member) (q .rest) (low (q .member) (q .fits)) (sym e ∙ q .is)
+      no x (ended l e) q = text-some (q .member) (q .rest)
+          (low (q .member) (q .fits)) (sym e ∙ q .is)
 
   -- no label begins with a parenthesis
   no-taxon : (d : ℕ) (w y : List ℕ) → Fits n u m o (taxon d)
       → opens ∷ y ≡ text (taxon d) w → ⊥
   unfolding text times
   no-taxon d w y f e =
-      let l = label-first d w (low (taxon d) f d (rw (eq-eqb d d refl) (omega arith))) in
+      let l = label-first d w
+      (low (taxon d) f d (rw (eq-eqb d d refl) (omega arith))) in
       omega (arith, l .3, head-is (e ∙ l .2))
 
   -- a group for which too few taxa are left
   pub too-deep : at < length s → getD s at 0 ≡ opens → n < size n u + m + 2
       → NoTree n s at
   unfolding groups
-  too-deep h b r′ = stuck n s at (S .inside) goes (λ x a t. no x a (S .settles x t))
+  too-deep h b r′ = stuck n s at (S .inside) goes
+      (λ x a t. no x a (S .settles x t))
     where
       no : (x : List ℕ) → Agrees s at x → Onward n u m o x → ⊥
       no x (ended l e) q = absurd (omega (arith, h, l))
-      no x (byte l y e) q = go (q .member) (q .fits) (ap (λ (c : ℕ). c ∷ y) (sym b) ∙ sym e ∙ q .is)
+      no x (byte l y e) q = go (q .member) (q .fits)
+          (ap (λ (c : ℕ). c ∷ y) (sym b) ∙ sym e ∙ q .is)
         where
           go : (t : Member) → Fits n u m o t → opens ∷ y ≡ text t (q .rest) → ⊥
           go (taxon d) f i = no-taxon d (q .rest) y f i
@@ -74,7 +78,8 @@ module _ (n : ℕ) (few : n ≤ 64) (s : List ℕ) (at u m : ℕ) (o : Bool) (S 
     unfolding text
     is-taxon y t =
         let q = S .settles (getD s at 0 ∷ y) t in
-        go (q .member) (q .fits) (q .rest) (next-stop (q .rest) (q .next)) (q .is)
+        go (q .member) (q .fits) (q .rest) (next-stop (q .rest) (q .next))
+        (q .is)
       where
         go : (t : Member) → Fits n u m o t → (w : List ℕ) → Stop w
             → getD s at 0 ∷ y ≡ text t w
@@ -84,7 +89,8 @@ module _ (n : ℕ) (few : n ≤ 64) (s : List ℕ) (at u m : ℕ) (o : Bool) (S 
 
     pub bad-label : (p : ℕ) → Missed s at (allowed n u o) p → NoTree n s p
     bad-label p M = record {
-      none = λ t. whole (is-taxon (drop (suc at) s) (as-tree n (sym (take-append-drop at s) ∙ ap (λ (l : List ℕ). take at s ++ l) (drop-cons s at 0 h)) t));
+      none = λ t. whole
+          (is-taxon (drop (suc at) s) (as-tree n (sym (take-append-drop at s) ∙ ap (λ (l : List ℕ). take at s ++ l) (drop-cons s at 0 h)) t));
       inside = M .inside;
       before = goes-to (M .before);
       there = λ l (w, t). later l w t;
@@ -93,19 +99,22 @@ module _ (n : ℕ) (few : n ≤ 64) (s : List ℕ) (at u m : ℕ) (o : Bool) (S 
         whole : (d : ℕ) × (w : List ℕ) × (has (allowed n u o) d ≡ true) × Stop w × (getD s at 0 ∷ drop (suc at) s ≡ decimal d ++ w)
             → ⊥
         whole (d, w, i, j, e) =
-            M .none d w i (λ p q. j) (sym (take-append-drop at s) ∙ ap (λ (l : List ℕ). take at s ++ l) (drop-cons s at 0 h ∙ e))
+            M .none d w i (λ p q. j)
+            (sym (take-append-drop at s) ∙ ap (λ (l : List ℕ). take at s ++ l) (drop-cons s at 0 h ∙ e))
 
         goes-to : (p ≡ at) ⊎ ((d : ℕ) × (w : List ℕ) × (has (allowed n u o) d ≡ true) × (take p s ++ w ≡ take at s ++ decimal d))
             → GoesOn n (take p s)
         goes-to (inl e) = subst (λ (i : ℕ). GoesOn n (take i s)) (sym e) goes
-        goes-to (inr (d, w, i, e)) = taxon-on d p w e (S .fills (taxon d) (allowed-fits n u m o d (S .within) (S .room) i))
+        goes-to (inr (d, w, i, e)) = taxon-on d p w e
+            (S .fills (taxon d) (allowed-fits n u m o d (S .within) (S .room) i))
 
         later : p < length s → (x : List ℕ) → IsTree n (take (suc p) s ++ x) → ⊥
         later l x t =
             let k : at + (p - at) ≡ p = omega (arith, M .after) in
             let q = from-on s x at (p - at) p k l in
             let f = is-taxon (q .0) (as-tree n (q .1) t) in
-            M .there l x (f .0) (f .1) (f .2) (λ i j. f .3) (q .1 ∙ ap (λ (z : List ℕ). take at s ++ z) (f .4))
+            M .there l x (f .0) (f .1) (f .2) (λ i j. f .3)
+            (q .1 ∙ ap (λ (z : List ℕ). take at s ++ z) (f .4))
 
   pub past-taxon : (d p : ℕ) → Found s at (allowed n u o) d p
       → Past n s at u m o (taxon d) p
@@ -130,7 +139,8 @@ module _ (n : ℕ) (few : n ≤ 64) (s : List ℕ) (at u m : ℕ) (o : Bool) (S 
     opened : (x : List ℕ) → IsTree n (take (at + 1) s ++ x) → Opened x
     unfolding text
     opened x t =
-        let q = S .settles (opens ∷ x) (as-tree n (here-step s at opens h x) t) in
+        let q = S .settles (opens ∷ x)
+        (as-tree n (here-step s at opens h x) t) in
         go (q .member) (q .rest) (q .fits) (q .is)
       where
         go : (t : Member) (w : List ℕ) → Fits n u m o t → opens ∷ x ≡ text t w
@@ -160,7 +170,9 @@ module _ (n : ℕ) (few : n ≤ 64) (s : List ℕ) (at u m : ℕ) (o : Bool) (S 
         is = q .is;
       };
       fills = λ l f.
-          let g = fill n (mark l u) m o (mark-within n u (suc m) true l f) (omega (arith, mark-size n u (suc m) true l f, f .room)) (S .last) in
+          let g = fill n (mark l u) m o (mark-within n u (suc m) true l f)
+          (omega (arith, mark-size n u (suc m) true l f, f .room))
+          (S .last) in
           let k = to-group l (g .0) (fits-group n u m o l (g .0) f (g .1)) in
           (comma ∷ text (g .0) (closes ∷ k .0), k .1);
     }
@@ -171,15 +183,24 @@ module _ (n : ℕ) (few : n ≤ 64) (s : List ℕ) (at u m : ℕ) (o : Bool) (S 
           → (r : Member) × (w : List ℕ) × Fits n (mark l u) m o r × (x ≡ comma ∷ text r (closes ∷ w))
       after-left x v t =
           let q = opened (text l x) (as-tree n (L .is x) t) in
-          let e = settled l (q .left) x (comma ∷ text (q .right) (closes ∷ q .rest)) (below n u (suc m) true l few (L .fits))
-          (below n u (suc m) true (q .left) few (fits-left n u m o (q .left) (q .right) (q .fits))) v (stop-at comma _ refl) (q .is) in
-          let f : Fits n u m o (group l (q .right)) = subst (λ (k : Member). Fits n u m o (group k (q .right))) (sym (e .0)) (q .fits) in
+          let e = settled l (q .left) x
+          (comma ∷ text (q .right) (closes ∷ q .rest))
+          (below n u (suc m) true l few (L .fits))
+          (below n u (suc m) true (q .left) few (fits-left n u m o (q .left) (q .right) (q .fits))) v
+          (stop-at comma _ refl) (q .is) in
+          let f : Fits n u m o (group l (q .right)) = subst
+          (λ (k : Member). Fits n u m o (group k (q .right))) (sym (e .0))
+          (q .fits) in
           (q .right, q .rest, fits-right n u m o l (q .right) f, e .1)
 
       pub no-comma : here s p comma ≡ false → NoTree n s p
       no-comma e =
-          let g = fill n (mark l u) m o (mark-within n u (suc m) true l (L .fits)) (omega (arith, mark-size n u (suc m) true l (L .fits), L .fits .room)) (S .last) in
-          let k = to-group l (g .0) (fits-group n u m o l (g .0) (L .fits) (g .1)) in
+          let g = fill n (mark l u) m o
+          (mark-within n u (suc m) true l (L .fits))
+          (omega (arith, mark-size n u (suc m) true l (L .fits), L .fits .room))
+          (S .last) in
+          let k = to-group l (g .0)
+          (fits-group n u m o l (g .0) (L .fits) (g .1)) in
           expect n s p (L .inside) comma
           (comma ∷ text (g .0) (closes ∷ k .0), as-tree n (sym (L .is (comma ∷ text (g .0) (closes ∷ k .0)))) (k .1))
           (λ x a t. let q = after-left x (over-agrees l s p x (L .over) a) t in (text (q .0) (closes ∷ q .1), q .3)) e
@@ -188,7 +209,9 @@ module _ (n : ℕ) (few : n ≤ 64) (s : List ℕ) (at u m : ℕ) (o : Bool) (S 
         after-comma : (x : List ℕ) → IsTree n (take (p + 1) s ++ x)
             → (r : Member) × (w : List ℕ) × Fits n (mark l u) m o r × (x ≡ text r (closes ∷ w))
         after-comma x t =
-            let q = after-left (comma ∷ x) (over-stop l (comma ∷ x) (stop-at comma x refl)) (as-tree n (here-step s p comma c x) t) in
+            let q = after-left (comma ∷ x)
+            (over-stop l (comma ∷ x) (stop-at comma x refl))
+            (as-tree n (here-step s p comma c x) t) in
             (q .0, q .1, q .2, tail-is (q .3))
 
         to-right : (r : Member) → Fits n (mark l u) m o r
@@ -202,7 +225,8 @@ module _ (n : ℕ) (few : n ≤ 64) (s : List ℕ) (at u m : ℕ) (o : Bool) (S 
         right-slot = record {
           inside = omega (arith, here-in s p comma c);
           within = mark-within n u (suc m) true l (L .fits);
-          room = omega (arith, mark-size n u (suc m) true l (L .fits), L .fits .room);
+          room = omega
+              (arith, mark-size n u (suc m) true l (L .fits), L .fits .room);
           last = S .last;
           settles = λ x t. let q = after-comma x t in record {
             member = q .0;
@@ -218,10 +242,15 @@ module _ (n : ℕ) (few : n ≤ 64) (s : List ℕ) (at u m : ℕ) (o : Bool) (S 
           pub no-close : here s q closes ≡ false → NoTree n s q
           no-close e =
               let k = to-right r (R .fits) in
-              expect n s q (R .inside) closes (closes ∷ k .0, as-tree n (sym (R .is (closes ∷ k .0))) (k .1))
+              expect n s q (R .inside) closes
+              (closes ∷ k .0, as-tree n (sym (R .is (closes ∷ k .0))) (k .1))
               (λ x a t.
               let f = after-comma (text r x) (as-tree n (R .is x) t) in
-              let g = settled r (f .0) x (closes ∷ f .1) (below n (mark l u) m o r few (R .fits)) (below n (mark l u) m o (f .0) few (f .2)) (over-agrees r s q x (R .over) a) (stop-at closes _ refl) (f .3) in
+              let g = settled r (f .0) x (closes ∷ f .1)
+              (below n (mark l u) m o r few (R .fits))
+              (below n (mark l u) m o (f .0) few (f .2))
+              (over-agrees r s q x (R .over) a) (stop-at closes _ refl)
+              (f .3) in
               (f .1, g .1)) e
 
           pub past-group : here s q closes ≡ true
@@ -229,7 +258,10 @@ module _ (n : ℕ) (few : n ≤ 64) (s : List ℕ) (at u m : ℕ) (o : Bool) (S 
           unfolding text
           past-group e = record {
             fits = fits-group n u m o l r (L .fits) (R .fits);
-            is = λ x. here-step s q closes e x ∙ R .is (closes ∷ x) ∙ here-step s p comma c (text r (closes ∷ x)) ∙ L .is (comma ∷ text r (closes ∷ x)) ∙ here-step s at opens h (text l (comma ∷ text r (closes ∷ x)));
+            is = λ x. here-step s q closes e x ∙ R .is (closes ∷ x)
+                ∙ here-step s p comma c (text r (closes ∷ x))
+                ∙ L .is (comma ∷ text r (closes ∷ x))
+                ∙ here-step s at opens h (text l (comma ∷ text r (closes ∷ x)));
             moved = omega (arith, L .moved, R .moved);
             inside = omega (arith, here-in s q closes e);
             over = tt;

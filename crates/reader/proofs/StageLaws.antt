@@ -66,23 +66,28 @@ module _ (n u : ℕ) (few : n ≤ most) (w : Within n u) where
 
   pub free-last : (o : Bool) → o ≡ false → size most u + 1 ≡ n
       → less (full n) u ≡ allowed n u o
-  free-last o e h = rw (e, eq-eqb (suc (size n u)) n (omega (arith, h, size-is)))
+  free-last o e h = rw
+      (e, eq-eqb (suc (size n u)) n (omega (arith, h, size-is)))
 
   pub free-none : (o : Bool) → o ≡ false → (size most u + 1 ≡ n → ⊥)
       → 0 ≡ allowed n u o
-  free-none o e h = rw (e, ne-eqb (suc (size n u)) n (λ q. h (omega (arith, q, size-is))))
+  free-none o e h = rw
+      (e, ne-eqb (suc (size n u)) n (λ q. h (omega (arith, q, size-is))))
 
 -- ---- a label that was read, among the taxa that may stand there
 module _ (s : List ℕ) (at f : ℕ) (n u : ℕ) (o : Bool) (is : f ≡ allowed n u o) (r : Label) (L : LabelIs s at f r) where
   pub label-bad : (p : ℕ) → r ≡ label.Bad p → Missed s at (allowed n u o) p
-  label-bad p e = subst (λ (v : ℕ). Missed s at v p) is (subst (LabelIs s at f) e L)
+  label-bad p e = subst (λ (v : ℕ). Missed s at v p) is
+      (subst (LabelIs s at f) e L)
 
   pub label-found : (d p : ℕ) → r ≡ label.Taxon d p
       → Found s at (allowed n u o) d p
-  label-found d p e = subst (λ (v : ℕ). Found s at v d p) is (subst (LabelIs s at f) e L)
+  label-found d p e = subst (λ (v : ℕ). Found s at v d p) is
+      (subst (LabelIs s at f) e L)
 
   pub label-low : n ≤ most → (d p : ℕ) → r ≡ label.Taxon d p → d < most
-  label-low few d p e = omega (arith, few, allowed-low n u 0 o d (label-found d p e .among))
+  label-low few d p e = omega
+      (arith, few, allowed-low n u 0 o d (label-found d p e .among))
 
 -- no label stands at the end of the text
 pub label-none : (s : List ℕ) (at n u : ℕ) (o : Bool) → n ≤ most → length s ≤ at
@@ -92,7 +97,8 @@ label-none s at n u o few h k = record {
   inside = k;
   before = inl refl;
   there = λ l x d w m e q. absurd (omega (arith, h, l));
-  none = λ d w m e q. absurd (some d w (omega (arith, few, allowed-low n u 0 o d m)) q);
+  none = λ d w m e q. absurd
+      (some d w (omega (arith, few, allowed-low n u 0 o d m)) q);
 }
   where
     some : (d : ℕ) (w : List ℕ) → d < 100 → s ≡ take at s ++ (decimal d ++ w)
@@ -100,14 +106,16 @@ label-none s at n u o few h k = record {
     some d w l q =
         let f = label-first d w l in
         let e : length s ≡ length (take at s) + suc (length (f .1)) =
-        ap length (q ∙ ap (λ (z : List ℕ). take at s ++ z) (f .2)) ∙ length-append (take at s) (f .0 ∷ f .1) in
+        ap length (q ∙ ap (λ (z : List ℕ). take at s ++ z) (f .2))
+        ∙ length-append (take at s) (f .0 ∷ f .1) in
         omega (arith, e, ap length (take-all at s h))
 
 -- ---- one answer for another that is the same
 module _ (n : ℕ) (s : List ℕ) (r : Got) where
   pub bad-again : (c d : Cursor) (i j : ℕ) (o q : Bool) (t t₁ u u₁ : List ℕ) (p : ℕ)
       → r ≡ got.Bad p → GotIs n s c i o t t₁ r → GotIs n s d j q u u₁ r
-  bad-again c d i j o q t t₁ u u₁ p e g = subst (GotIs n s d j q u u₁) (sym e) (subst (GotIs n s c i o t t₁) e g)
+  bad-again c d i j o q t t₁ u u₁ p e g = subst (GotIs n s d j q u u₁) (sym e)
+      (subst (GotIs n s c i o t t₁) e g)
 
   pub bad-is : (c : Cursor) (i : ℕ) (o : Bool) (t t₁ : List ℕ) (p : ℕ)
       → r ≡ got.Bad p → GotIs n s c i o t t₁ r → NoTree n s p
@@ -115,7 +123,9 @@ module _ (n : ℕ) (s : List ℕ) (r : Got) where
 
   pub read-is : (z c d : Cursor) (i v : ℕ) (o : Bool) (t t₁ : List ℕ) → z ≡ c
       → r ≡ got.Node d v → GotIs n s z i o t t₁ r → Read n s c i o t t₁ d v
-  read-is z c d i v o t t₁ q e g = subst (λ (y : Cursor). Read n s y i o t t₁ d v) q (subst (GotIs n s z i o t t₁) e g)
+  read-is z c d i v o t t₁ q e g = subst
+      (λ (y : Cursor). Read n s y i o t t₁ d v) q
+      (subst (GotIs n s z i o t t₁) e g)
 
 -- a cursor for another that is the same
 pub ready-at : (n : ℕ) (s t : List ℕ) (z c : Cursor) (m : ℕ) (o : Bool) → z ≡ c
@@ -131,17 +141,21 @@ module _ (n : ℕ) (s t : List ℕ) (c : Cursor) (m : ℕ) (o : Bool) (R : Ready
   got-taxon e (got.Bad p) M = go (ltb (c .at) (length s)) refl
     where
       not-open : c .at < length s → getD s (c .at) 0 ≡ opens → ⊥
-      not-open h q = true≢false (sym (ap₂ _&&_ (lt-ltb (c .at) (length s) h) (eq-eqb (getD s (c .at) 0) opens q)) ∙ e)
+      not-open h q = true≢false
+          (sym (ap₂ _&&_ (lt-ltb (c .at) (length s) h) (eq-eqb (getD s (c .at) 0) opens q)) ∙ e)
 
       go : (b : Bool) → ltb (c .at) (length s) ≡ b → NoTree n s p
-      go true l = let h = ltb-true (c .at) (length s) l in bad-label n (R .few) s (c .at) (c .used) m o (R .slot) h (not-open h) p M
+      go true l = let h = ltb-true (c .at) (length s) l in bad-label n
+          (R .few) s (c .at) (c .used) m o (R .slot) h (not-open h) p M
       go false l =
           let h = ltb-false (c .at) (length s) l in
           let q : c .at ≡ p = omega (arith, h, M .after, M .inside) in
-          subst (NoTree n s) q (no-more n (R .few) s (c .at) (c .used) m o (R .slot) h)
+          subst (NoTree n s) q
+          (no-more n (R .few) s (c .at) (c .used) m o (R .slot) h)
   got-taxon e (got.Node d v) T = record {
     member = taxon v;
-    past = past-taxon n (R .few) s (c .at) (c .used) m o (R .slot) v (d .at) (T .found);
+    past = past-taxon n (R .few) s (c .at) (c .used) m o (R .slot) v (d .at)
+        (T .found);
     next = omega (arith, T .next);
     used = T .used;
     named = refl;
@@ -153,7 +167,9 @@ module _ (n : ℕ) (s t : List ℕ) (c : Cursor) (m : ℕ) (o : Bool) (R : Ready
 
   module _ (h₀ : here s (c .at) opens ≡ true) where
     pub group-bad : n < size most (c .used) + m + 2 → NoTree n s (c .at)
-    group-bad k = too-deep n (R .few) s (c .at) (c .used) m o (R .slot) (here-in s (c .at) opens h₀) (here-is s (c .at) opens h₀) (omega (arith, k, count-is))
+    group-bad k = too-deep n (R .few) s (c .at) (c .used) m o (R .slot)
+        (here-in s (c .at) opens h₀) (here-is s (c .at) opens h₀)
+        (omega (arith, k, count-is))
 
     module _ (deep : size most (c .used) + m + 2 ≤ n) where
       room : size n (c .used) + m + 2 ≤ n
@@ -163,7 +179,9 @@ module _ (n : ℕ) (s t : List ℕ) (c : Cursor) (m : ℕ) (o : Bool) (R : Ready
       left-ready = record {
         big = R .big;
         few = R .few;
-        slot = subst (λ (i : ℕ). Slot n s (c .at + 1) (c .used) i true) (sym (add-one m)) (left-slot n (R .few) s (c .at) (c .used) m o (R .slot) h₀ room);
+        slot = subst (λ (i : ℕ). Slot n s (c .at + 1) (c .used) i true)
+            (sym (add-one m))
+            (left-slot n (R .few) s (c .at) (c .used) m o (R .slot) h₀ room);
         from = R .from;
         numbers = omega (arith, R .numbers);
         len = R .len;
@@ -171,41 +189,53 @@ module _ (n : ℕ) (s t : List ℕ) (c : Cursor) (m : ℕ) (o : Bool) (R : Ready
 
       module _ (t₁ : List ℕ) (d : Cursor) (x : ℕ) (L : Read n s (ahead c) (m + 1) true t t₁ d x) where
         past-left : Past n s (c .at + 1) (c .used) (suc m) true (L .member) (d .at)
-        past-left = subst (λ (i : ℕ). Past n s (c .at + 1) (c .used) i true (L .member) (d .at)) (add-one m) (L .past)
+        past-left = subst
+            (λ (i : ℕ). Past n s (c .at + 1) (c .used) i true (L .member) (d .at))
+            (add-one m) (L .past)
 
         pub comma-bad : here s (d .at) comma ≡ false → NoTree n s (d .at)
-        comma-bad e = no-comma n (R .few) s (c .at) (c .used) m o (R .slot) h₀ (L .member) (d .at) past-left e
+        comma-bad e = no-comma n (R .few) s (c .at) (c .used) m o (R .slot) h₀
+            (L .member) (d .at) past-left e
 
         left-size : size n (d .used) ≡ size n (c .used) + suc (groups (L .member))
-        left-size = ap (size n) (L .used) ∙ mark-size n (c .used) (suc m) true (L .member) (past-left .fits)
+        left-size = ap (size n) (L .used)
+            ∙ mark-size n (c .used) (suc m) true (L .member) (past-left .fits)
 
         module _ (k : here s (d .at) comma ≡ true) where
           pub right-ready : Ready n s t₁ (ahead d) m o
           right-ready = record {
             big = R .big;
             few = R .few;
-            slot = subst (λ (u : ℕ). Slot n s (d .at + 1) u m o) (sym (L .used)) (right-slot n (R .few) s (c .at) (c .used) m o (R .slot) h₀ (L .member) (d .at) past-left k);
+            slot = subst (λ (u : ℕ). Slot n s (d .at + 1) u m o) (sym (L .used))
+                (right-slot n (R .few) s (c .at) (c .used) m o (R .slot) h₀ (L .member) (d .at) past-left k);
             from = omega (arith, R .from, L .next);
             numbers = omega (arith, R .numbers, L .next, left-size);
-            len = ap length (L .written) ∙ length-rows (L .member) (c .next) t ∙ R .len;
+            len = ap length (L .written) ∙ length-rows (L .member) (c .next) t
+                ∙ R .len;
           }
 
           module _ (t₂ : List ℕ) (f : Cursor) (y : ℕ) (Q : Read n s (ahead d) m o t₁ t₂ f y) where
             past-right : Past n s (d .at + 1) (mark (L .member) (c .used)) m o (Q .member) (f .at)
-            past-right = subst (λ (u : ℕ). Past n s (d .at + 1) u m o (Q .member) (f .at)) (L .used) (Q .past)
+            past-right = subst
+                (λ (u : ℕ). Past n s (d .at + 1) u m o (Q .member) (f .at))
+                (L .used) (Q .past)
 
             -- the parent has the number of a node, and its members' are below
             parent-node : f .next ≤ rows n
-            parent-node = omega (arith, R .numbers, L .next, Q .next, left-size, Q .past .fits .room, R .big)
+            parent-node = omega
+                (arith, R .numbers, L .next, Q .next, left-size, Q .past .fits .room, R .big)
 
             left-node : x < f .next
-            left-node = omega (arith, L .named, L .next, Q .next, node-lt n (L .member) (c .next) (below-n n (c .used) (suc m) true (L .member) (past-left .fits)) (R .from))
+            left-node = omega
+                (arith, L .named, L .next, Q .next, node-lt n (L .member) (c .next) (below-n n (c .used) (suc m) true (L .member) (past-left .fits)) (R .from))
 
             right-node : y < f .next
-            right-node = omega (arith, Q .named, Q .next, node-lt n (Q .member) (d .next) (below-n n (d .used) m o (Q .member) (Q .past .fits)) (omega (arith, R .from, L .next)))
+            right-node = omega
+                (arith, Q .named, Q .next, node-lt n (Q .member) (d .next) (below-n n (d .used) m o (Q .member) (Q .past .fits)) (omega (arith, R .from, L .next)))
 
             length-right : length t₂ ≡ 2 * rows n
-            length-right = ap length (Q .written) ∙ length-rows (Q .member) (d .next) t₁ ∙ right-ready .len
+            length-right = ap length (Q .written)
+                ∙ length-rows (Q .member) (d .next) t₁ ∙ right-ready .len
 
             pub to-close : Closes s t₂ f x y
             to-close = record {
@@ -218,18 +248,24 @@ module _ (n : ℕ) (s t : List ℕ) (c : Cursor) (m : ℕ) (o : Bool) (R : Ready
             pub got-group : (t₃ : List ℕ) (r : Got) → ClosedIs s f x y t₂ t₃ r
                 → GotIs n s c m o t t₃ r
             unfolding withRows node groups mark
-            got-group t₃ (got.Bad p) (e, h) = subst (NoTree n s) (sym e) (no-close n (R .few) s (c .at) (c .used) m o (R .slot) h₀ (L .member) (d .at) past-left k (Q .member) (f .at) past-right h)
+            got-group t₃ (got.Bad p) (e, h) = subst (NoTree n s) (sym e)
+                (no-close n (R .few) s (c .at) (c .used) m o (R .slot) h₀ (L .member) (d .at) past-left k (Q .member) (f .at) past-right h)
             got-group t₃ (got.Node g v) C = record {
               member = group (L .member) (Q .member);
-              past = subst (Past n s (c .at) (c .used) m o (group (L .member) (Q .member))) (sym (ap (λ (z : Cursor). z .at) (C .after)))
+              past = subst
+                  (Past n s (c .at) (c .used) m o (group (L .member) (Q .member)))
+                  (sym (ap (λ (z : Cursor). z .at) (C .after)))
                   (past-group n (R .few) s (c .at) (c .used) m o (R .slot) h₀ (L .member) (d .at) past-left k (Q .member) (f .at) past-right (C .closed));
-              next = ap (λ (z : Cursor). z .next) (C .after) ∙ omega (arith, L .next, Q .next);
-              used = ap (λ (z : Cursor). z .used) (C .after) ∙ Q .used ∙ ap (mark (Q .member)) (L .used);
+              next = ap (λ (z : Cursor). z .next) (C .after)
+                  ∙ omega (arith, L .next, Q .next);
+              used = ap (λ (z : Cursor). z .used) (C .after) ∙ Q .used
+                  ∙ ap (mark (Q .member)) (L .used);
               named = C .named ∙ omega (arith, L .next, Q .next);
               written = C .written ∙ joined;
             }
               where
                 joined : join y (f .next) (join x (f .next) t₂) ≡ withRows (group (L .member) (Q .member)) (c .next) t
                 joined =
-                    let p : f .next ≡ c .next + groups (L .member) + groups (Q .member) = Q .next ∙ ap (λ (i : ℕ). i + groups (Q .member)) (L .next) in
+                    let p : f .next ≡ c .next + groups (L .member) + groups (Q .member) = Q .next
+                    ∙ ap (λ (i : ℕ). i + groups (Q .member)) (L .next) in
                     rw (p, Q .named, L .named, Q .written, L .written, L .next)

@@ -31,8 +31,10 @@ end-parsed : (n : ℕ) (s : List ℕ) (p : ℕ) (o : Outermost) → Closing n s 
     → (t : List ℕ) → t ≡ table n o → (r : Parsed) → EndIs s p r
     → ParsedIs n s t r
 end-parsed n s p o C t e parsed.Whole (h, l) = (o, whole-text n s p o C h l, e)
-end-parsed n s p o C t e (parsed.Bad q) (inl (i, h)) = subst (NoTree n s) (sym i) (no-semicolon n s p o C h)
-end-parsed n s p o C t e (parsed.Bad q) (inr (i, h, l)) = subst (NoTree n s) (sym i) (more-after n s p o C h l)
+end-parsed n s p o C t e (parsed.Bad q) (inl (i, h)) = subst (NoTree n s)
+    (sym i) (no-semicolon n s p o C h)
+end-parsed n s p o C t e (parsed.Bad q) (inr (i, h, l)) = subst (NoTree n s)
+    (sym i) (more-after n s p o C h l)
 
 module _ (n : ℕ) (s : List ℕ) where
   -- ---- the first member
@@ -63,17 +65,21 @@ module _ (n : ℕ) (s : List ℕ) where
   -- ---- the second member
   module _ (t : List ℕ) (c : Cursor) (x : ℕ) (O : One n s t c x) where
     pub no-second : here s (c .at) comma ≡ false → NoTree n s (c .at)
-    no-second e = no-first-comma n (O .few) s (O .opened) (O .first) (c .at) (O .past) e
+    no-second e = no-first-comma n (O .few) s (O .opened) (O .first) (c .at)
+        (O .past) e
 
     module _ (k : here s (c .at) comma ≡ true) where
       pub second-ready : Ready n s t (ahead c) 0 true
       second-ready = record {
         big = O .big;
         few = O .few;
-        slot = subst (λ (u : ℕ). Slot n s (c .at + 1) u 0 true) (sym (O .used)) (second-slot n (O .few) s (O .opened) (O .first) (c .at) (O .past) k);
+        slot = subst (λ (u : ℕ). Slot n s (c .at + 1) u 0 true) (sym (O .used))
+            (second-slot n (O .few) s (O .opened) (O .first) (c .at) (O .past) k);
         from = omega (arith, O .next);
-        numbers = omega (arith, O .next, ap (size n) (O .used) ∙ mark-size n 0 1 true (O .first) (O .past .fits));
-        len = ap length (O .written) ∙ length-rows (O .first) n (blank n) ∙ blank-length n;
+        numbers = omega
+            (arith, O .next, ap (size n) (O .used) ∙ mark-size n 0 1 true (O .first) (O .past .fits));
+        len = ap length (O .written) ∙ length-rows (O .first) n (blank n)
+            ∙ blank-length n;
       }
 
       pub two-read : (t₁ : List ℕ) (d : Cursor) (y : ℕ)
@@ -87,12 +93,15 @@ module _ (n : ℕ) (s : List ℕ) where
         past-first = O .past;
         parted = k;
         second = Q .member;
-        past = subst (λ (u : ℕ). Past n s (c .at + 1) u 0 true (Q .member) (d .at)) (O .used) (Q .past);
+        past = subst
+            (λ (u : ℕ). Past n s (c .at + 1) u 0 true (Q .member) (d .at))
+            (O .used) (Q .past);
         next = Q .next ∙ ap (λ (i : ℕ). i + groups (Q .member)) (O .next);
         used = Q .used ∙ ap (mark (Q .member)) (O .used);
         named-first = O .named;
         named = Q .named ∙ ap (node (Q .member)) (O .next);
-        written = Q .written ∙ ap₂ (withRows (Q .member)) (O .next) (O .written);
+        written = Q .written ∙ ap₂ (withRows (Q .member)) (O .next)
+            (O .written);
       }
 
   module _ (t : List ℕ) (c : Cursor) (x y : ℕ) (T : Two n s t c x y) where
@@ -100,19 +109,25 @@ module _ (n : ℕ) (s : List ℕ) where
     both-size = ap (size n) (T .used)
 
     size-both : size n (c .used) ≡ groups (T .first) + groups (T .second) + 2
-    size-both = omega (arith, both-size, mark-size n (mark (T .first) 0) 0 true (T .second) (T .past .fits), mark-size n 0 1 true (T .first) (T .past-first .fits), size-none n)
+    size-both = omega
+        (arith, both-size, mark-size n (mark (T .first) 0) 0 true (T .second) (T .past .fits), mark-size n 0 1 true (T .first) (T .past-first .fits), size-none n)
 
     two-length : length t ≡ 2 * rows n
-    two-length = ap length (T .written) ∙ length-rows (T .second) (n + groups (T .first)) _ ∙ length-rows (T .first) n (blank n) ∙ blank-length n
+    two-length = ap length (T .written)
+        ∙ length-rows (T .second) (n + groups (T .first)) _
+        ∙ length-rows (T .first) n (blank n) ∙ blank-length n
 
     x-low : x < n + groups (T .first)
-    x-low = omega (arith, T .named-first, node-lt n (T .first) n (below-n n 0 1 true (T .first) (T .past-first .fits)) (omega arith))
+    x-low = omega
+        (arith, T .named-first, node-lt n (T .first) n (below-n n 0 1 true (T .first) (T .past-first .fits)) (omega arith))
 
     y-low : y < c .next
-    y-low = omega (arith, T .named, T .next, node-lt n (T .second) (n + groups (T .first)) (below-n n (mark (T .first) 0) 0 true (T .second) (T .past .fits)) (omega arith))
+    y-low = omega
+        (arith, T .named, T .next, node-lt n (T .second) (n + groups (T .first)) (below-n n (mark (T .first) 0) 0 true (T .second) (T .past .fits)) (omega arith))
 
     counted : size most (c .used) ≡ size n (c .used)
-    counted = subst (λ (u : ℕ). size most u ≡ size n u) (sym (T .used)) (size-is n (mark (T .second) (mark (T .first) 0)) (T .few) (mark-within n (mark (T .first) 0) 0 true (T .second) (T .past .fits)))
+    counted = subst (λ (u : ℕ). size most u ≡ size n u) (sym (T .used))
+        (size-is n (mark (T .second) (mark (T .first) 0)) (T .few) (mark-within n (mark (T .first) 0) 0 true (T .second) (T .past .fits)))
 
     pub some-left : (size most (c .used) ≡ n → ⊥) → size n (c .used) < n
     some-left h = lt-of-le-ne (size-le n (c .used)) (λ q. h (counted ∙ q))
@@ -123,21 +138,28 @@ module _ (n : ℕ) (s : List ℕ) where
       none = sym both-size ∙ sym counted ∙ all
 
       pub no-end : here s (c .at) closes ≡ false → NoTree n s (c .at)
-      no-end e = no-two-close n (T .few) s (T .opened) (T .first) (T .place) (T .past-first) (T .parted) (T .second) (c .at) (T .past) none e
+      no-end e = no-two-close n (T .few) s (T .opened) (T .first) (T .place)
+          (T .past-first) (T .parted) (T .second) (c .at) (T .past) none e
 
       ends : ((node (T .first) n < node (T .second) (n + groups (T .first))) × (node (T .second) (n + groups (T .first)) ≡ rows n))
           ⊎ ((node (T .second) (n + groups (T .first)) < node (T .first) n) × (node (T .first) n ≡ rows n))
       ends =
-          last-larger n (T .first) (T .second) (T .big) (below-n n 0 1 true (T .first) (T .past-first .fits))
-          (below-n n (mark (T .first) 0) 0 true (T .second) (T .past .fits)) (omega (arith, size-both, counted, all))
+          last-larger n (T .first) (T .second) (T .big)
+          (below-n n 0 1 true (T .first) (T .past-first .fits))
+          (below-n n (mark (T .first) 0) 0 true (T .second) (T .past .fits))
+          (omega (arith, size-both, counted, all))
 
       smaller-low : smaller x y < rows n
       smaller-low = go ends
         where
           go : ((node (T .first) n < node (T .second) (n + groups (T .first))) × (node (T .second) (n + groups (T .first)) ≡ rows n))
               ⊎ ((node (T .second) (n + groups (T .first)) < node (T .first) n) × (node (T .first) n ≡ rows n)) → smaller x y < rows n
-          go (inl (l, e)) = rw (lt-ltb x y (omega (arith, l, T .named, T .named-first))) (omega (arith, l, e, T .named-first))
-          go (inr (l, e)) = rw (le-ltb x y (omega (arith, l, T .named, T .named-first))) (omega (arith, l, e, T .named))
+          go (inl (l, e)) = rw
+              (lt-ltb x y (omega (arith, l, T .named, T .named-first)))
+              (omega (arith, l, e, T .named-first))
+          go (inr (l, e)) = rw
+              (le-ltb x y (omega (arith, l, T .named, T .named-first)))
+              (omega (arith, l, e, T .named))
 
       pub join-room : (2 * smaller x y + 1 < length t) × (x < 256) × (y < 256)
       join-room = (omega (arith, smaller-low, two-length), omega (arith, x-low, size-both, counted, all, T .few), omega (arith, y-low, T .next, size-both, counted, all, T .few))
@@ -147,7 +169,8 @@ module _ (n : ℕ) (s : List ℕ) where
           → EndIs s (c .at + 1) r → ParsedIs n s u r
       unfolding table
       two-parsed e u q =
-          end-parsed n s (c .at + 1) (two (T .first) (T .second)) (two-closing n (T .few) s (T .opened) (T .first) (T .place) (T .past-first) (T .parted) (T .second) (c .at) (T .past) none e)
+          end-parsed n s (c .at + 1) (two (T .first) (T .second))
+          (two-closing n (T .few) s (T .opened) (T .first) (T .place) (T .past-first) (T .parted) (T .second) (c .at) (T .past) none e)
           u (q ∙ rw (T .written, T .named, T .named-first))
 
     -- ---- three members
@@ -156,14 +179,18 @@ module _ (n : ℕ) (s : List ℕ) where
       some = omega (arith, left, both-size)
 
       pub no-third : here s (c .at) comma ≡ false → NoTree n s (c .at)
-      no-third e = no-second-comma n (T .few) s (T .opened) (T .first) (T .place) (T .past-first) (T .parted) (T .second) (c .at) (T .past) some e
+      no-third e = no-second-comma n (T .few) s (T .opened) (T .first)
+          (T .place) (T .past-first) (T .parted) (T .second) (c .at)
+          (T .past) some e
 
       module _ (k : here s (c .at) comma ≡ true) where
         pub third-ready : Ready n s t (ahead c) 0 false
         third-ready = record {
           big = T .big;
           few = T .few;
-          slot = subst (λ (u : ℕ). Slot n s (c .at + 1) u 0 false) (sym (T .used)) (third-slot n (T .few) s (T .opened) (T .first) (T .place) (T .past-first) (T .parted) (T .second) (c .at) (T .past) some k);
+          slot = subst (λ (u : ℕ). Slot n s (c .at + 1) u 0 false)
+              (sym (T .used))
+              (third-slot n (T .few) s (T .opened) (T .first) (T .place) (T .past-first) (T .parted) (T .second) (c .at) (T .past) some k);
           from = omega (arith, T .next);
           numbers = omega (arith, T .next, size-both);
           len = two-length;
@@ -171,20 +198,27 @@ module _ (n : ℕ) (s : List ℕ) where
 
         module _ (t₁ : List ℕ) (d : Cursor) (z : ℕ) (Q : Read n s (ahead c) 0 false t t₁ d z) where
           past-third : Past n s (c .at + 1) (mark (T .second) (mark (T .first) 0)) 0 false (Q .member) (d .at)
-          past-third = subst (λ (u : ℕ). Past n s (c .at + 1) u 0 false (Q .member) (d .at)) (T .used) (Q .past)
+          past-third = subst
+              (λ (u : ℕ). Past n s (c .at + 1) u 0 false (Q .member) (d .at))
+              (T .used) (Q .past)
 
           pub no-last : here s (d .at) closes ≡ false → NoTree n s (d .at)
-          no-last e = no-three-close n (T .few) s (T .opened) (T .first) (T .place) (T .past-first) (T .parted) (T .second) (c .at) (T .past) some k (Q .member) (d .at) past-third e
+          no-last e = no-three-close n (T .few) s (T .opened) (T .first)
+              (T .place) (T .past-first) (T .parted) (T .second) (c .at)
+              (T .past) some k (Q .member) (d .at) past-third e
 
           -- the outermost group is the last node
           pub last-node : d .next ≡ rows n
-          last-node = omega (arith, Q .next, T .next, size-both, Q .past .fits .full refl)
+          last-node = omega
+              (arith, Q .next, T .next, size-both, Q .past .fits .full refl)
 
           third-length : length t₁ ≡ 2 * rows n
-          third-length = ap length (Q .written) ∙ length-rows (Q .member) (c .next) t ∙ two-length
+          third-length = ap length (Q .written)
+              ∙ length-rows (Q .member) (c .next) t ∙ two-length
 
           z-low : z < d .next
-          z-low = omega (arith, Q .named, Q .next, node-lt n (Q .member) (c .next) (below-n n (c .used) 0 false (Q .member) (Q .past .fits)) (omega (arith, T .next)))
+          z-low = omega
+              (arith, Q .named, Q .next, node-lt n (Q .member) (c .next) (below-n n (c .used) 0 false (Q .member) (Q .past .fits)) (omega (arith, T .next)))
 
           -- each of the three rows has its place in the table
           fits-row : (w : List ℕ) (v : ℕ) → length w ≡ 2 * rows n → v < d .next
@@ -192,7 +226,8 @@ module _ (n : ℕ) (s : List ℕ) where
           fits-row w v l h = (omega (arith, l, h, last-node), omega (arith, h, last-node, T .few), omega (arith, last-node, T .few))
 
           pub x-room : (2 * x + 1 < length t₁) × (x < 256) × (d .next < 256)
-          x-room = fits-row t₁ x third-length (omega (arith, x-low, Q .next, T .next))
+          x-room = fits-row t₁ x third-length
+              (omega (arith, x-low, Q .next, T .next))
 
           module _ (t₂ : List ℕ) (e₂ : t₂ ≡ join x (d .next) t₁) where
             length₂ : length t₂ ≡ 2 * rows n
@@ -203,13 +238,15 @@ module _ (n : ℕ) (s : List ℕ) where
 
             module _ (t₃ : List ℕ) (e₃ : t₃ ≡ join y (d .next) t₂) where
               pub z-room : (2 * z + 1 < length t₃) × (z < 256) × (d .next < 256)
-              z-room = fits-row t₃ z (ap length e₃ ∙ length-join t₂ y (d .next) ∙ length₂) z-low
+              z-room = fits-row t₃ z
+                  (ap length e₃ ∙ length-join t₂ y (d .next) ∙ length₂) z-low
 
               pub three-parsed : (e : here s (d .at) closes ≡ true) (u : List ℕ)
                   → u ≡ join z (d .next) t₃ → (r : Parsed)
                   → EndIs s (d .at + 1) r → ParsedIs n s u r
               unfolding table
               three-parsed e u q =
-                  end-parsed n s (d .at + 1) (three (T .first) (T .second) (Q .member))
+                  end-parsed n s (d .at + 1)
+                  (three (T .first) (T .second) (Q .member))
                   (three-closing n (T .few) s (T .opened) (T .first) (T .place) (T .past-first) (T .parted) (T .second) (c .at) (T .past) some k (Q .member) (d .at) past-third e)
                   u (q ∙ rw (e₃, e₂, Q .written, Q .named, Q .next, T .next, T .named, T .named-first, T .written))
