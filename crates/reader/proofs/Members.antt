@@ -7,7 +7,7 @@ use Prim.Native.Nat.{ℕ, zero, suc, _+_, _/_, _%_, _≤_, _<_}
 use native.Mathlib.Omega.{arith}
 use lib.Arith.{lt-of-le-ne}
 use lib.Dec.{eqb, ltb}
-use borrow.Author.Tests.{lt-ltb, le-ltb, ltb-true, ltb-false, eq-eqb, eqb-true, eqb-false}
+use borrow.Author.Tests.{lt-ltb, ltb-true, ltb-false, eq-eqb, eqb-true, eqb-false}
 use Rattle.taxa.specs.Sets.{tally, pick, has, add, less, full, size}
 use Rattle.taxa.proofs.Sets.{has-add, has-less, has-ones, has-none}
 use Rattle.taxa.proofs.Sizes.{size-none}
@@ -215,20 +215,6 @@ each-fits n t h = record {
   room = omega (arith, total n t h, size-none n);
   full = λ e. omega (arith, total n t h, size-none n);
 }
-
--- ---- how many are read
-pub size-wide : (n k u : ℕ) → n ≤ k → Within n u → size k u ≡ size n u
-unfolding size
-size-wide n zero u h w = let z : 0 ≡ n = omega (arith, h) in ap
-    (λ (i : ℕ). size i u) z
-size-wide n (suc k) u h w = go (eqb n (suc k)) refl (size-wide n k u)
-  where
-    go : (b : Bool) → eqb n (suc k) ≡ b
-        → (n ≤ k → Within n u → size k u ≡ size n u) → size (suc k) u ≡ size n u
-    go true e ih = ap (λ (i : ℕ). size i u) (sym (eqb-true n (suc k) e))
-    go false e ih =
-        let l : n < suc k = lt-of-le-ne h (eqb-false n (suc k) e) in
-        omega (arith, ih (omega (arith, l)) w, w k, ap tally (le-ltb k n (omega (arith, l))))
 
 -- ---- some member fits
 free : (k u : ℕ) → size k u < k → (d : ℕ) × (d < k) × (has u d ≡ false)

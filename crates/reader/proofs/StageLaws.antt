@@ -1,6 +1,6 @@
 -- What each step of the reader comes to, from what it asked. Assumes nothing.
 use mathlib.Core.Path.{_≡_, refl, sym, ap, ap₂, _∙_, subst}
-use mathlib.Core.Logic.{inl}
+use mathlib.Core.Logic.{_⊎_, inl, inr}
 use mathlib.Core.Bool.{Bool, true, false, true≢false, _&&_}
 use mathlib.Core.List.{List, _∷_, _++_}
 use Prim.Native.Nat.{ℕ, suc, _+_, _*_, _≤_, _<_}
@@ -11,7 +11,9 @@ use lib.ListN.{length, take, getD, length-append}
 use lib.Seq.{take-all}
 use borrow.Author.Tests.{lt-ltb, le-ltb, ltb-true, ltb-false, eq-eqb, ne-eqb}
 use Rattle.taxa.specs.Most.{most}
-use Rattle.taxa.specs.Sets.{has, less, full, size}
+use Rattle.taxa.specs.Sets.{tally, has, less, full, size}
+use Rattle.taxa.proofs.Bools.{either}
+use Rattle.taxa.proofs.Sizes.{size-wide}
 use Rattle.tree.specs.Tree.{rows}
 use Rattle.text.specs.Lines.{decimal}
 use Rattle.labels.specs.Labels.{Found, Missed, LabelIs}
@@ -26,7 +28,7 @@ use Rattle.reader.specs.declared.Got.{Got}
 use Rattle.reader.specs.declared.Got.the-variants as got
 use Rattle.reader.specs.Slots.{mark, Within, allowed, Slot, here, Past}
 use Rattle.reader.specs.Stages.{ahead, TakenIs, Ready, Read, GotIs, Closes, ClosedIs}
-use Rattle.reader.proofs.Members.{allowed-low, label-first, below-n, mark-size, size-wide}
+use Rattle.reader.proofs.Members.{allowed-low, label-first, below-n, mark-size}
 use Rattle.reader.proofs.Places.{here-in, here-is}
 use Rattle.reader.proofs.SlotLaws.{no-more, too-deep, bad-label, past-taxon, left-slot, no-comma, right-slot, no-close, past-group}
 
@@ -59,7 +61,11 @@ module _ (t : List ℕ) (x y : ℕ) where
 module _ (n u : ℕ) (few : n ≤ most) (w : Within n u) where
   -- the size that the code counts is the one of the definitions
   pub size-is : size most u ≡ size n u
-  size-is = size-wide n most u few w
+  size-is = size-wide n most u few (λ i p. below i p (either (ltb i n)))
+    where
+      below : (i : ℕ) → has u i ≡ true → (ltb i n ≡ true) ⊎ (ltb i n ≡ false) → i < n
+      below i p (inl e) = ltb-true i n e
+      below i p (inr e) = absurd (omega (arith, w i, ap tally p, ap tally e))
 
   pub free-more : (o : Bool) → o ≡ true → less (full n) u ≡ allowed n u o
   free-more o e = rw e

@@ -1,59 +1,49 @@
 -- Laws for listing the splits from the sides. Assumes nothing.
 use mathlib.Core.Path.{_≡_, refl, sym, ap, ap₂, _∙_, subst}
-use mathlib.Core.Bool.{Bool, true, false, not, _&&_}
+use mathlib.Core.Bool.{Bool, true, false, not}
 use mathlib.Core.List.{List, [], _∷_, _++_}
 use Prim.Native.Nat.{ℕ, zero, suc, _+_, _-_, _^_, _≤_, _<_, zero-le}
-use native.Mathlib.Nat.{le-refl, lt-of-lt-of-le}
+use native.Mathlib.Nat.{le-refl}
 use native.Mathlib.Decide.{le-ind}
 use native.Mathlib.Numerals.{add-one}
 use native.Mathlib.Omega.{arith}
 use lib.Dec.{eqb, ltb}
-use lib.Bits.{bitAnd}
 use lib.ListN.{length, getD, take, drop, length-append, length-drop, take-append-drop}
 use lib.Seq.{take-at, drop-append-add, drop-drop, length-take-le}
-use lib.Pow.{pow-mono}
 use borrow.Author.Tests.{eq-eqb, ne-eqb}
 use Rattle.taxa.specs.Most.{most}
-use Rattle.taxa.specs.Sets.{pick, has, less, some, lowest, size}
+use Rattle.taxa.specs.Sets.{pick, some, lowest, size}
 use Rattle.taxa.proofs.Bools.{bool-eq}
-use Rattle.taxa.proofs.Sets.{has-less, has-none, ext, some-zero, lowest-wide, lowest-lt}
-use Rattle.taxa.proofs.Words.{ones-size}
+use Rattle.taxa.proofs.Sets.{has-below, some-zero, lowest-wide, lowest-lt}
+use Rattle.taxa.proofs.Sizes.{size-wide}
 use Rattle.tree.specs.Tree.{rows, Valid}
 use Rattle.tree.specs.Lists.{insert, lacks, firstLack}
-use Rattle.tree.specs.Splits.{side, meets, flips, split, splitsTo, splits, members, dist, missing}
-use Rattle.tree.proofs.SplitLaws.{some-meets, meets-some}
+use Rattle.tree.specs.Splits.{side, meets, flips, split, splitsTo, splitsBy, splits, members, dist, missing}
+use Rattle.tree.proofs.SplitLaws.{some-meets, meets-some, nothing-split}
 use Rattle.tree.proofs.Members.{members-count}
 use Rattle.sides.specs.Filled.{Sides}
 use Rattle.splits.specs.Listed.{added, splitsOf, Listed}
 
 -- ---- the list from the sides is the list of the tree
 module _ (n : ℕ) (t : List ℕ) (y : ℕ) (ss : List ℕ) (bound : y < 2 ^ n) (S : Sides n t ss) where
-  pub splits-to : (k : ℕ) → k ≤ rows n → splitsOf n y ss k ≡ splitsTo n t y k
+  pub splits-to : (k : ℕ) → k ≤ rows n → splitsOf n y ss k ≡ splitsTo flips n t y k
   unfolding splitsOf splitsTo added
   splits-to zero h = refl
   splits-to (suc k) h =
       rw (S .right k h, splits-to k (omega arith), bool-eq (some (split n y (side n t k))) (meets y (side n t k)) (some-meets n y (side n t k) bound) (meets-some n y (side n t k)))
 
   pub splits-all : splitsOf n y ss (rows n) ≡ splits n t y
-  unfolding splits
+  unfolding splitsBy
   splits-all = splits-to (rows n) (le-refl (rows n))
 
 -- an empty partition has no split
 pub splits-none : (n : ℕ) (ss : List ℕ) (k : ℕ) → splitsOf n 0 ss k ≡ []
-unfolding splitsOf added split
+unfolding splitsOf added
 splits-none n ss zero = refl
-splits-none n ss (suc k) = ap₂ (λ (b : Bool) (l : List ℕ). pick b (insert (split n 0 (getD ss k 0)) l) l) (ap some (empty (flips n 0 (getD ss k 0))) ∙ some-zero) (splits-none n ss k)
-  where
-    empty : (c : Bool) → pick c (less 0 (getD ss k 0)) (bitAnd (getD ss k 0) 0) ≡ 0
-    empty true = ext (less 0 (getD ss k 0)) 0 (λ i. has-less 0 (getD ss k 0) i ∙ ap (λ (b : Bool). b && not (has (getD ss k 0) i)) (has-none i) ∙ sym (has-none i))
-    empty false = lib.Bits.and-zero-r (getD ss k 0)
+splits-none n ss (suc k) =
+    ap₂ (λ (b : Bool) (l : List ℕ). pick b (insert (split n 0 (getD ss k 0)) l) l) (ap some (nothing-split n (getD ss k 0)) ∙ some-zero) (splits-none n ss k)
 
--- ---- the side without the lowest taxon is the one that is written
-pub without-split : (n y s low : ℕ) → n ≤ most → y < 2 ^ n → (y ≡ 0 → ⊥) → low ≡ lowest most y → pick (has s low) (less y s) (bitAnd s y) ≡ split n y s
-unfolding split flips some
-without-split n y s low few bound d h =
-    ap (λ (k : ℕ). pick (has s k) (less y s) (bitAnd s y)) (h ∙ lowest-wide n most y few bound (ap not (ne-eqb y 0 d)))
-
+-- ---- the lowest taxon of a partition that has one
 pub low-lt : (n y low : ℕ) → n ≤ most → y < 2 ^ n → (y ≡ 0 → ⊥) → low ≡ lowest most y → low < most
 unfolding some
 low-lt n y low few bound d h =
@@ -144,11 +134,8 @@ module _ (n y : ℕ) (ss : List ℕ) where
                 ∙ ap (λ (z : ℕ). drop z out₀) all
 
 -- ---- how much room is needed
-pub size-wide : (n w y : ℕ) → n ≤ w → y < 2 ^ n → size w y ≡ size n y
-size-wide n w y h b = sym (ones-size w y (lt-of-lt-of-le b (pow-mono h))) ∙ ones-size n y b
-
 pub needed : (n : ℕ) (t : List ℕ) (y : ℕ) → Valid n t → n ≤ most → y < 2 ^ n → length (splits n t y) ≡ members (size most y)
-needed n t y vt few bound = members-count n t y vt bound ∙ ap members (sym (size-wide n most y few bound))
+needed n t y vt few bound = members-count n t y vt bound ∙ ap members (sym (size-wide n most y few (λ i. has-below n y i bound)))
 
 -- ---- one number
 pub added-zero : (x : ℕ) (l : List ℕ) → x ≡ 0 → added x l ≡ l
@@ -180,17 +167,17 @@ pub listed-to : (l m out out′ : List ℕ) (r : ℕ) → l ≡ m → Listed l o
 listed-to l m out out′ r e L = subst (λ (z : List ℕ). Listed z out r out′) e L
 
 -- no more splits than rows
-splits-to-few : (n : ℕ) (t : List ℕ) (y k : ℕ) → length (splitsTo n t y k) ≤ k
+splits-to-few : (n : ℕ) (t : List ℕ) (y k : ℕ) → length (splitsTo flips n t y k) ≤ k
 unfolding splitsTo
 splits-to-few n t y zero = le-refl 0
 splits-to-few n t y (suc k) = go (splits-to-few n t y k) (meets y (side n t k))
   where
-    go : length (splitsTo n t y k) ≤ k → (b : Bool) → length (pick b (insert (split n y (side n t k)) (splitsTo n t y k)) (splitsTo n t y k)) ≤ suc k
-    go ih true = omega (arith, insert-length (split n y (side n t k)) (splitsTo n t y k))
+    go : length (splitsTo flips n t y k) ≤ k → (b : Bool) → length (pick b (insert (split n y (side n t k)) (splitsTo flips n t y k)) (splitsTo flips n t y k)) ≤ suc k
+    go ih true = omega (arith, insert-length (split n y (side n t k)) (splitsTo flips n t y k))
     go ih false = omega arith
 
 pub splits-few : (n : ℕ) (t : List ℕ) (y : ℕ) → length (splits n t y) ≤ rows n
-unfolding splits
+unfolding splitsBy
 splits-few n t y = splits-to-few n t y (rows n)
 
 -- the comparison of what is written at the start of two lists is that of the

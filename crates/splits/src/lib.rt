@@ -2,10 +2,9 @@
 // trees.
 ghost use Prim.Native.Nat.{_+_, _*_, _-_, _^_, _<_, _≤_};
 ghost use mathlib.Core.Path.{_≡_};
-ghost use lib.Bits.{bitAnd};
 ghost use lib.ListN.{length, take};
 ghost use Rattle.taxa.specs.Most.{most};
-ghost use Rattle.taxa.specs.Sets.{pick, has, less};
+ghost use Rattle.taxa.specs.Sets.{lowest};
 ghost use Rattle.tree.specs.Tree.{rows};
 ghost use Rattle.tree.specs.Splits as splits_spec;
 ghost use Rattle.tree.specs.Lists.{lacks, firstLack};
@@ -30,10 +29,10 @@ pub enum Compared {
     Refused(Refusal),
 }
 
-// Of the two sides of y that s makes, the one without the taxon low.
-fn without(low: usize, y: u64, s: u64) -> u64
-    requires { ⌜ low < most ⌝ }
-    ensures { λ x. ⌜ x ≡ pick (has s low) (less y s) (bitAnd s y) ⌝ }
+// The number of the split over y that s makes; low is the lowest taxon of y.
+fn number(low: usize, y: u64, s: u64) -> u64
+    requires { ⌜ (low ≡ lowest most y) × (low < most) ⌝ }
+    ensures { λ x. ⌜ x ≡ splits_spec.split most y s ⌝ }
 {
     if taxa::has(s, low) {
         return taxa::less(y, s);
@@ -66,7 +65,7 @@ fn list(n: usize, sides: &[u64; sides::ROWS], y: u64, out: &mut [u64]) -> usize
     let mut len: usize = 0;
     let mut i: usize = 0;
     while i < m {
-        let x = without(low, y, sides[i]);
+        let x = number(low, y, sides[i]);
         len = add(out, len, x);
         i += 1;
     }

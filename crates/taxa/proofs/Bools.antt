@@ -98,6 +98,16 @@ xor-twice true true = refl
 xor-twice true false = refl
 xor-twice false q = refl
 
+pub xor-assoc : (p q r : Bool) → (p ⊕ (q ⊕ r)) ≡ (p ⊕ q ⊕ r)
+xor-assoc true true true = refl
+xor-assoc true true false = refl
+xor-assoc true false r = refl
+xor-assoc false q r = refl
+
+-- two that are the same once turned over differ by the turns
+pub xor-same : (f p g q : Bool) → (f ⊕ p) ≡ (g ⊕ q) → p ≡ (f ⊕ g ⊕ q)
+xor-same f p g q h = sym (xor-twice f p) ∙ ap (λ (b : Bool). f ⊕ b) h ∙ xor-assoc f g q
+
 -- two that both turn over keep what they differ by
 pub xor-not : (p q p′ q′ : Bool) → p ≡ not p′ → q ≡ not q′ → (p ⊕ q) ≡ (p′ ⊕ q′)
 xor-not p q true true a b = ap₂ _⊕_ a b

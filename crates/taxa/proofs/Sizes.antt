@@ -4,6 +4,7 @@ use mathlib.Core.Logic.{_⊎_, inl, inr}
 use mathlib.Core.Bool.{Bool, true, false, _||_, false≢true, or-true, or-false}
 use Prim.Native.Nat.{ℕ, zero, suc, _+_, _^_, _≤_, _<_, zero-le}
 use native.Mathlib.Nat.{le-refl}
+use native.Mathlib.Decide.{le-ind}
 use native.Mathlib.Omega.{arith}
 use lib.Dec.{eqb}
 use borrow.Author.Tests.{eqb-true, eqb-false, ne-eqb, eq-eqb}
@@ -142,3 +143,13 @@ size-less (suc k) a b i h l p q = go (λ l′. size-less k a b i (λ j m. h j (o
         let e₂ : has b k ≡ true = ap (has b) (sym (eqb-true i k w)) ∙ q in
         rw (e₁, e₂) (omega (arith, below))
     go ih (inr w) = omega (arith, here, ih (lib.Arith.lt-of-le-ne (omega arith) (eqb-false i k w)))
+
+-- beyond the members nothing is counted
+pub size-wide : (n w s : ℕ) → n ≤ w → ((i : ℕ) → has s i ≡ true → i < n) → size w s ≡ size n s
+unfolding size
+size-wide n w s h below =
+    le-ind (λ (k : ℕ). size k s ≡ size n s) refl (λ m l ih. omega (arith, ih, ap tally (none m l (either (has s m))))) w h
+  where
+    none : (m : ℕ) → n ≤ m → (has s m ≡ true) ⊎ (has s m ≡ false) → has s m ≡ false
+    none m l (inl p) = absurd (omega (arith, below m p))
+    none m l (inr p) = p

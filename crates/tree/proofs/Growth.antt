@@ -9,33 +9,23 @@ use mathlib.Core.List.{List}
 use Prim.Native.Nat.{ℕ, _^_, _<_}
 use native.Mathlib.Omega.{arith}
 use lib.Dec.{eqb}
-use lib.Bits.{bitAnd}
+use lib.Bits.{bitAnd, and-zero-l}
 use borrow.Author.Tests.{eqb-true, ne-eqb, eq-eqb, not-true}
 use Rattle.taxa.specs.Sets.{has, less, some, lowest, Sub}
-use Rattle.taxa.proofs.Bools.{either, and-left, and-right, and-both, and-false-r, and-when′, or-cases, or-left, or-right, _⊕_, xor-twice, xor-move, xor-not}
-use Rattle.taxa.proofs.Sets.{has-and, has-less, has-pow, has-none, has-below, ext, sub-lt, some-has, some-zero, some-false, some-lowest}
+use Rattle.taxa.proofs.Bools.{either, and-left, and-right, and-both, or-cases, or-left, or-right, _⊕_, xor-twice, xor-same, xor-move, xor-not}
+use Rattle.taxa.proofs.Sets.{has-and, has-less, has-pow, has-none, has-below, sub-lt, some-has, some-zero, some-false, some-lowest}
 use Rattle.taxa.proofs.Sizes.{sub-refl}
 use Rattle.tree.specs.Tree.{lo, rows, part, Valid}
 use Rattle.tree.specs.Lists.{mem}
-use Rattle.tree.specs.Splits.{side, meets, flips, split, splits}
+use Rattle.tree.specs.Splits.{side, meets, split, splits}
 use Rattle.tree.proofs.Colourings.{row-parts, valid-table, never-cross}
-use Rattle.tree.proofs.SplitLaws.{num, side-has, num-of, has-split, split-eq, split-split, some-meets, meets-some, kept-in, kept-out}
+use Rattle.tree.proofs.SplitLaws.{num, side-has, num-of, split-eq, split-same, split-split, no-split, some-meets, meets-some, kept-in, kept-out}
 use Rattle.tree.proofs.RowCounts.{leaf-row}
 use Rattle.tree.proofs.Forks.{leaf-parts}
 
 -- ---- tests
-xor-assoc : (p q r : Bool) → (p ⊕ (q ⊕ r)) ≡ (p ⊕ q ⊕ r)
-xor-assoc true true true = refl
-xor-assoc true true false = refl
-xor-assoc true false r = refl
-xor-assoc false q r = refl
-
 xor-inj : (d p q : Bool) → (d ⊕ p) ≡ (d ⊕ q) → p ≡ q
 xor-inj d p q h = sym (xor-twice d p) ∙ ap (λ (b : Bool). d ⊕ b) h ∙ xor-twice d q
-
--- two that are the same once turned over differ by the turns
-xor-same : (f p g q : Bool) → (f ⊕ p) ≡ (g ⊕ q) → p ≡ (f ⊕ g ⊕ q)
-xor-same f p g q h = sym (xor-twice f p) ∙ ap (λ (b : Bool). f ⊕ b) h ∙ xor-assoc f g q
 
 xor-or : (p d : Bool) → (p ≡ (d ⊕ false)) ⊎ (p ≡ (d ⊕ true))
 xor-or true true = inl refl
@@ -65,20 +55,9 @@ opposite p q a b h l = xor-move a b (p ⊕ not q) (go (eq-or a p))
 
 -- ---- splits over any set
 -- nothing has no split
-split-none : (n y : ℕ) → split n y 0 ≡ 0
-unfolding flips
-split-none n y = ext (split n y 0) 0 (λ i.
-    has-split n y 0 i ∙ ap₂ (λ (p q : Bool). has y i && (p ⊕ q)) (has-none (lowest n y)) (has-none i) ∙ and-false-r (has y i) ∙ sym (has-none i))
-
--- equal splits come from sets that are the same over y, or each other's
--- complement
-pub split-same : (n y s s′ : ℕ) → split n y s ≡ split n y s′ → (d : Bool) × ((i : ℕ) → has y i ≡ true → has s i ≡ (d ⊕ has s′ i))
-split-same n y s s′ e = (
-  flips n y s ⊕ flips n y s′,
-  λ i p. xor-same (flips n y s) (has s i) (flips n y s′) (has s′ i)
-      (and-when′ (has y i) (flips n y s ⊕ has s i) (flips n y s′ ⊕ has s′ i) p
-      (sym (has-split n y s i) ∙ ap (λ (z : ℕ). has z i) e ∙ has-split n y s′ i)),
-)
+split-none : (n y : ℕ) → y < 2 ^ n → split n y 0 ≡ 0
+unfolding meets
+split-none n y bound = no-split n y 0 bound (ap (λ (b : Bool). b && some (less y 0)) (ap some (and-zero-l y) ∙ some-zero))
 
 -- a member of y that is not in s
 pub missing : (n y s : ℕ) → y < 2 ^ n → some (less y s) ≡ true → (i : ℕ) × (has y i ≡ true) × (has s i ≡ false)
@@ -176,7 +155,7 @@ module _ (n : ℕ) (t : List ℕ) (Y Y′ x : ℕ) (G : Grown n t Y Y′ x) wher
       (sym (num-of n t (G .valid .big) (valid-table n t (G .valid)) Y′ (w .0) (2 ^ x) (G .bound′) (w .1) (leaf-parts n t (w .0) x (G .valid) (G .lt) (w .1) (w .2))))
 
   pub own-cut : split n Y own ≡ 0
-  own-cut = cut (2 ^ x) ∙ split-eq n Y (2 ^ x) 0 (G .bound) false (λ i p. has-pow x i ∙ not-new i p ∙ sym (has-none i)) ∙ split-none n Y
+  own-cut = cut (2 ^ x) ∙ split-eq n Y (2 ^ x) 0 (G .bound) false (λ i p. has-pow x i ∙ not-new i p ∙ sym (has-none i)) ∙ split-none n Y (G .bound)
 
   -- a split over Y′ other than x's own cuts down to a split over Y
   pub down : (z : ℕ) → mem z (splits n t Y′) ≡ true → (z ≡ own → ⊥) → mem (split n Y z) (splits n t Y) ≡ true
@@ -190,11 +169,11 @@ module _ (n : ℕ) (t : List ℕ) (Y Y′ x : ℕ) (G : Grown n t Y Y′ x) wher
       go (inr p) = absurd (at (xor-or (has z x) (c .0)))
         where
           c : (b : Bool) × ((i : ℕ) → has Y i ≡ true → has z i ≡ (b ⊕ has 0 i))
-          c = split-same n Y z 0 (some-false (split n Y z) p ∙ sym (split-none n Y))
+          c = split-same n Y z 0 (some-false (split n Y z) p ∙ sym (split-none n Y (G .bound)))
 
           at : (has z x ≡ (c .0 ⊕ false)) ⊎ (has z x ≡ (c .0 ⊕ true)) → ⊥
           at (inl q) = true≢false (sym (w .2) ∙ ap some (sym (again z h)
-              ∙ grow-eq z 0 (c .0) (c .1) (q ∙ ap (λ (b : Bool). c .0 ⊕ b) (sym (has-none x))) ∙ split-none n Y′) ∙ some-zero)
+              ∙ grow-eq z 0 (c .0) (c .1) (q ∙ ap (λ (b : Bool). c .0 ⊕ b) (sym (has-none x))) ∙ split-none n Y′ (G .bound′)) ∙ some-zero)
           at (inr q) = d (sym (again z h) ∙ grow-eq z (2 ^ x) (c .0)
               (λ i u. c .1 i u ∙ ap (λ (b : Bool). c .0 ⊕ b) (has-none i ∙ sym (has-pow x i ∙ not-new i u)))
               (q ∙ ap (λ (b : Bool). c .0 ⊕ b) (sym (has-pow x x ∙ eq-eqb x x refl))))

@@ -3,6 +3,8 @@ pub mod Joins
 pub mod Bridges
 pub mod Colourings
 pub mod Lists
+pub mod Choices
+pub mod SideWritten
 pub mod SplitLaws
 pub mod Monotone
 pub mod RowCounts

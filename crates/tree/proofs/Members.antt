@@ -22,7 +22,8 @@ use Rattle.tree.specs.Tree.{rows, Valid}
 use Rattle.tree.specs.Lists.{mem, lacks}
 use Rattle.tree.specs.Splits.{side, split, splits, members}
 use Rattle.tree.proofs.Lists.{Distinct, asc-distinct, lacks-le′, lacks-nil, lacks-none, none-lacks}
-use Rattle.tree.proofs.SplitLaws.{num, meets-mono, meets-some, some-meets, kept-in, kept-out, splits-asc}
+use Rattle.tree.proofs.Choices.{meets-mono}
+use Rattle.tree.proofs.SplitLaws.{num, meets-some, some-meets, kept-in, kept-out, splits-asc}
 use Rattle.tree.proofs.ListCounts.{Left, lacks-cons, lacks-inj}
 use Rattle.tree.proofs.Growth.{Grown, Twice, both-sides, sub, own, own-in, own-cut, cut, again, down, two-lifts, meet-one}
 use Rattle.tree.proofs.DoubleLift.{found}

@@ -10,51 +10,69 @@ use mathlib.Core.Logic.{_⊎_, inl, inr, _↔_}
 use mathlib.Core.Bool.{true, false, true≢false}
 use mathlib.Core.List.{List, [], _∷_}
 use Prim.Native.Nat.{ℕ, _^_, _≤_, _<_}
-use native.Mathlib.Nat.{le-refl, add-le-add}
+use native.Mathlib.Nat.{le-refl, le-antisymm, add-le-add}
 use native.Mathlib.Omega.{arith}
 use lib.Dec.{eqb}
 use borrow.Author.Tests.{eqb-true, eq-eqb}
 use Rattle.taxa.specs.Sets.{some, Sub}
 use Rattle.taxa.proofs.Bools.{either, bool-eq}
 use Rattle.taxa.proofs.Sets.{sub-lt}
-use Rattle.taxa.proofs.Sizes.{tally-le}
-use Rattle.tree.specs.Tree.{rows}
+use Rattle.taxa.proofs.Sizes.{tally-le, sub-refl}
 use Rattle.tree.specs.Lists.{mem, lacks}
-use Rattle.tree.specs.Splits.{side, split, splits, dist, unchanged, Gains}
+use Rattle.tree.specs.Splits.{side, Choice, splitBy, splitsBy, distBy, holdsLowest, flips, splits, dist, unchanged, Gains}
 use Rattle.tree.proofs.Lists.{lacks-le, lacks-none, none-lacks, asc-eq}
-use Rattle.tree.proofs.SplitLaws.{num, split-split, meets-mono, kept-in, kept-out, into, out-of, splits-asc}
+use Rattle.tree.proofs.Choices.{Fair, some-by, twice-by, meets-mono, asc-by, into, out-of}
+use Rattle.tree.proofs.SideWritten.{lowest-fair, flips-fair}
+use Rattle.tree.proofs.SplitLaws.{splits-asc}
 
-module _ (n y₁ y₂ : ℕ) (sub : Sub y₁ y₂) (bound₂ : y₂ < 2 ^ n) where
+-- ---- by any two choices of side, c for the smaller set and c′ for the larger
+module _ (c c′ : Choice) (fair : Fair c) (n y₁ y₂ : ℕ) (sub : Sub y₁ y₂) (bound₂ : y₂ < 2 ^ n) where
   bound : y₁ < 2 ^ n
   bound = sub-lt n y₁ y₂ sub bound₂
 
-  lifted : (t u : List ℕ) (x : ℕ) → mem x (splits n t y₁) ≡ true → mem x (splits n u y₁) ≡ false
-      → (z : ℕ) × (mem z (splits n t y₂) ≡ true) × (mem z (splits n u y₂) ≡ false) × (split n y₁ z ≡ x)
-  unfolding splits
+  lifted : (t u : List ℕ) (x : ℕ) → mem x (splitsBy c n t y₁) ≡ true → mem x (splitsBy c n u y₁) ≡ false
+      → (z : ℕ) × (mem z (splitsBy c′ n t y₂) ≡ true) × (mem z (splitsBy c′ n u y₂) ≡ false) × (splitBy c n y₁ z ≡ x)
   lifted t u x h lack =
-      let w = out-of n t y₁ (rows n) x h in
+      let w = out-of c n t y₁ x h in
       let s = side n t (w .0) in
-      let z = split n y₂ s in
-      let back : split n y₁ z ≡ x = split-split n y₁ y₂ sub bound s ∙ sym (w .3) in
-      (z, into n t y₂ (rows n) (w .0) (w .1) (meets-mono y₁ y₂ s sub (w .2)), none z back (kept-out n t y₁ bound x h .2), back)
+      let z = splitBy c′ n y₂ s in
+      let back : splitBy c n y₁ z ≡ x = twice-by c c′ fair n y₁ y₂ sub bound s ∙ sym (w .3) in
+      (z, into c′ n t y₂ (w .0) (w .1) (meets-mono y₁ y₂ s sub (w .2)), none z back (ap some (w .3) ∙ some-by c n y₁ s (w .2)), back)
     where
-      none : (z : ℕ) → split n y₁ z ≡ x → some x ≡ true → mem z (splits n u y₂) ≡ false
-      none z back nonzero = go (either (mem z (splits n u y₂)))
+      none : (z : ℕ) → splitBy c n y₁ z ≡ x → some x ≡ true → mem z (splitsBy c′ n u y₂) ≡ false
+      none z back nonzero = go (either (mem z (splitsBy c′ n u y₂)))
         where
-          go : (mem z (splits n u y₂) ≡ true) ⊎ (mem z (splits n u y₂) ≡ false) → mem z (splits n u y₂) ≡ false
+          go : (mem z (splitsBy c′ n u y₂) ≡ true) ⊎ (mem z (splitsBy c′ n u y₂) ≡ false) → mem z (splitsBy c′ n u y₂) ≡ false
           go (inr e) = e
           go (inl e) =
-              let w = kept-out n u y₂ bound₂ z e in
-              let same : x ≡ num n u y₁ (w .0) = sym back ∙ ap (split n y₁) (w .3) ∙ split-split n y₁ y₂ sub bound (side n u (w .0)) in
-              absurd (true≢false (sym (kept-in n u y₁ bound x (w .0) (w .1) nonzero same) ∙ lack))
+              let w = out-of c′ n u y₂ z e in
+              let s = side n u (w .0) in
+              let same : splitBy c n y₁ s ≡ x = sym (twice-by c c′ fair n y₁ y₂ sub bound s) ∙ ap (splitBy c n y₁) (sym (w .3)) ∙ back in
+              let there = into c n u y₁ (w .0) (w .1) (fair .kept n y₁ s bound (ap some same ∙ nonzero)) in
+              absurd (true≢false (sym there ∙ ap (λ (v : ℕ). mem v (splitsBy c n u y₁)) same ∙ lack))
 
-  lacks-mono : (t u : List ℕ) → lacks (splits n t y₁) (splits n u y₁) ≤ lacks (splits n t y₂) (splits n u y₂)
+  lacks-mono : (t u : List ℕ) → lacks (splitsBy c n t y₁) (splitsBy c n u y₁) ≤ lacks (splitsBy c′ n t y₂) (splitsBy c′ n u y₂)
   lacks-mono t u =
-      lacks-le (split n y₁) (splits n t y₁) (splits n u y₁) (splits n t y₂) (splits n u y₂) (splits-asc n t y₁) (lifted t u)
+      lacks-le (splitBy c n y₁) (splitsBy c n t y₁) (splitsBy c n u y₁) (splitsBy c′ n t y₂) (splitsBy c′ n u y₂) (asc-by c n t y₁) (lifted t u)
 
+  by-mono : (t u : List ℕ) → distBy c n t u y₁ ≤ distBy c′ n t u y₂
+  by-mono t u = add-le-add (lacks-mono t u) (lacks-mono u t)
+
+-- the distance is the same by every choice of side
+pub by-any : (c c′ : Choice) → Fair c → Fair c′ → (n : ℕ) (t u : List ℕ) (y : ℕ) → y < 2 ^ n → distBy c n t u y ≡ distBy c′ n t u y
+by-any c c′ fair fair′ n t u y bound =
+    le-antisymm (by-mono c c′ fair n y y (sub-refl y) bound t u) (by-mono c′ c fair′ n y y (sub-refl y) bound t u)
+
+-- and so by the side without the lowest taxon of y
+pub dist-lowest : (n : ℕ) (t u : List ℕ) (y : ℕ) → y < 2 ^ n → dist n t u y ≡ distBy holdsLowest n t u y
+unfolding dist
+dist-lowest = by-any flips holdsLowest flips-fair lowest-fair
+
+-- ---- with the side that is written
+module _ (n y₁ y₂ : ℕ) (sub : Sub y₁ y₂) (bound₂ : y₂ < 2 ^ n) where
   pub dist-mono : (t u : List ℕ) → dist n t u y₁ ≤ dist n t u y₂
   unfolding dist
-  dist-mono t u = add-le-add (lacks-mono t u) (lacks-mono u t)
+  dist-mono = by-mono flips flips flips-fair n y₁ y₂ sub bound₂
 
   -- so more species never turn changed into same
   pub same-mono : (t u : List ℕ) → dist n t u y₂ ≡ 0 → dist n t u y₁ ≡ 0

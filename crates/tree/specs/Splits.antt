@@ -18,27 +18,27 @@ side n t e = part n t e (lo t e) % 2 ^ n
 unfoldable pub meets : ℕ → ℕ → Bool
 meets y s = some (bitAnd s y) && some (less y s)
 
--- Of the two sides of y that the set s makes, the one that is written: not s
--- itself where s holds the lowest taxon of y.
-unfoldable pub flips : ℕ → ℕ → ℕ → Bool
-flips n y s = has s (lowest n y)
+-- A choice of side: whether of the two sides of y that a set makes the one is
+-- written that is not the set's own.
+abbrev pub Choice : Type 0
+Choice = ℕ → ℕ → ℕ → Bool
 
--- The number of a split over y.
-unfoldable pub split : ℕ → ℕ → ℕ → ℕ
-split n y s = pick (flips n y s) (less y s) (bitAnd s y)
+-- The number of a split over y, by a choice of side.
+unfoldable pub splitBy : Choice → ℕ → ℕ → ℕ → ℕ
+splitBy c n y s = pick (c n y s) (less y s) (bitAnd s y)
 
 -- The induced splits over y of rows 0 to k-1: kept when both sides are
 -- non-empty, ascending, each once.
-unfoldable pub splitsTo : ℕ → List ℕ → ℕ → ℕ → List ℕ
-splitsTo n t y zero = []
-splitsTo n t y (suc k) =
+unfoldable pub splitsTo : Choice → ℕ → List ℕ → ℕ → ℕ → List ℕ
+splitsTo c n t y zero = []
+splitsTo c n t y (suc k) =
     let s = side n t k in
-    let l = splitsTo n t y k in
-    pick (meets y s) (insert (split n y s) l) l
+    let l = splitsTo c n t y k in
+    pick (meets y s) (insert (splitBy c n y s) l) l
 
 -- The list of induced splits of a tree over y.
-unfoldable pub splits : ℕ → List ℕ → ℕ → List ℕ
-splits n t y = splitsTo n t y (rows n)
+unfoldable pub splitsBy : Choice → ℕ → List ℕ → ℕ → List ℕ
+splitsBy c n t y = splitsTo c n t y (rows n)
 
 -- How many members the set has when y has m taxa.
 abbrev pub members : ℕ → ℕ
@@ -47,13 +47,32 @@ members (suc zero) = 0
 members (suc (suc zero)) = 1
 members (suc (suc (suc m))) = 2 * suc (suc (suc m)) - 3
 
--- The distance of two trees over y: how many splits are in exactly one of the
--- two sets.
-unfoldable pub dist : ℕ → List ℕ → List ℕ → ℕ → ℕ
-dist n t u y =
-    let a = splits n t y in
-    let b = splits n u y in
+-- The set holds the lowest taxon of y.
+unfoldable pub holdsLowest : Choice
+holdsLowest n y s = has s (lowest n y)
+
+-- The side that is written: the one that does not hold the lowest taxon of y.
+unfoldable pub flips : Choice
+flips n y s = holdsLowest n y s
+
+-- The number of a split over y, and the list of them, ascending.
+abbrev pub split : ℕ → ℕ → ℕ → ℕ
+split = splitBy flips
+
+abbrev pub splits : ℕ → List ℕ → ℕ → List ℕ
+splits = splitsBy flips
+
+-- How many splits are in exactly one of the sets of two trees, by a choice of
+-- side.
+abbrev pub distBy : Choice → ℕ → List ℕ → List ℕ → ℕ → ℕ
+distBy c n t u y =
+    let a = splitsBy c n t y in
+    let b = splitsBy c n u y in
     lacks a b + lacks b a
+
+-- The distance of two trees over y.
+unfoldable pub dist : ℕ → List ℕ → List ℕ → ℕ → ℕ
+dist = distBy flips
 
 -- The smallest number on the first tree's list that the second lacks, or 0.
 unfoldable pub missing : ℕ → List ℕ → List ℕ → ℕ → ℕ

@@ -3,9 +3,11 @@ use mathlib.Core.Path.{_≡_, refl, sym, ap, _∙_, subst}
 use mathlib.Core.List.{List, []}
 use Prim.Native.Nat.{ℕ, _≤_, _-_}
 use native.Mathlib.Omega.{arith}
+use Rattle.taxa.specs.Most.{most}
 use Rattle.tree.specs.Tree.{rows}
+use Rattle.tree.proofs.SplitLaws.{split-wide}
 use Rattle.splits.specs.Listed.{splitsOf, Listed}
-use Rattle.splits.proofs.ListLaws.{splits-none, without-split, low-lt, listed-none, listed-length, listed-fits, listed-room, listed-more}
+use Rattle.splits.proofs.ListLaws.{splits-none, low-lt, listed-none, listed-length, listed-fits, listed-room, listed-more}
 use borrow.Author.Needs.{needs}
 use Rattle.splits.proofs.list.Statement.{statement}
 use Rattle.splits.proofs.list.Tie as tie
@@ -39,23 +41,23 @@ loop-holds : tie.Need-loop-holds Inv-loop μ-loop
 loop-holds c =
     (search needs, listed-none (c .before .before .before .args .n) (c .before .before .before .args .y) (c .before .before .before .args .sides .now) (c .before .before .before .args .out .now) (c .before .before .before .pre .3))
 
-mul-without : tie.Need-mul-without Inv-loop μ-loop
-mul-without c = search needs
+mul-number : tie.Need-mul-number Inv-loop μ-loop
+mul-number c = search needs
 
-element-copy-out-without : tie.Need-element-copy-out-without Inv-loop μ-loop
-element-copy-out-without c =
+element-copy-out-number : tie.Need-element-copy-out-number Inv-loop μ-loop
+element-copy-out-number c =
     omega (arith, c .before .before .before .before .before .pre .1)
 
-without-requires : tie.Need-without-requires Inv-loop μ-loop
-without-requires c κs =
-    low-lt (c .before .before .before .before .before .before .args .n) (c .before .before .before .before .before .before .args .y) (c .before .before .before .lowest .result) (c .before .before .before .before .before .before .pre .1) (c .before .before .before .before .before .before .pre .2) (c .before .before .before .before .if1 .left) (c .before .before .before .lowest .ensures)
+number-requires : tie.Need-number-requires Inv-loop μ-loop
+number-requires c κs =
+    (c .before .before .before .lowest .ensures, low-lt (c .before .before .before .before .before .before .args .n) (c .before .before .before .before .before .before .args .y) (c .before .before .before .lowest .result) (c .before .before .before .before .before .before .pre .1) (c .before .before .before .before .before .before .pre .2) (c .before .before .before .before .if1 .left) (c .before .before .before .lowest .ensures))
 
 add-requires : tie.Need-add-requires Inv-loop μ-loop
 add-requires c κs =
     let s = c .before .before .before .before .before .before .before .before in
-    let ex = c .before .without .ensures ∙ without-split (s .args .n) (s .args .y) _ (c .before .before .before .before .before .lowest .result) (s .pre .1) (s .pre .2) (c .before .before .before .before .before .before .if1 .left) (c .before .before .before .before .before .lowest .ensures) in (
+    let ex = c .before .number .ensures ∙ split-wide (s .args .n) most (s .args .y) _ (s .pre .1) (s .pre .2) in (
       listed-fits (s .args .n) (s .args .y) (s .args .sides .now) (s .args .out .now) (s .pre .3) (c .before .before .before .before .loop .out) (c .before .before .before .before .loop .len) (c .before .before .before .before .loop .i) (c .before .before .before .before .loop .inv .0) (c .before .before .before .before .loop .inv .1),
-      listed-room (s .args .n) (s .args .y) (s .args .sides .now) (s .args .out .now) (s .pre .3) (c .before .before .before .before .loop .out) (c .before .before .before .before .loop .len) (c .before .before .before .before .loop .i) (c .before .before .before .before .loop .inv .0) (c .before .before .before .before .loop .inv .1) (c .before .without .result) (c .before .before .before .loop-test .taken) ex,
+      listed-room (s .args .n) (s .args .y) (s .args .sides .now) (s .args .out .now) (s .pre .3) (c .before .before .before .before .loop .out) (c .before .before .before .before .loop .len) (c .before .before .before .before .loop .i) (c .before .before .before .before .loop .inv .0) (c .before .before .before .before .loop .inv .1) (c .before .number .result) (c .before .before .before .loop-test .taken) ex,
     )
 
 add-i : tie.Need-add-i Inv-loop μ-loop
@@ -67,8 +69,8 @@ loop-less c = search needs
 loop-again : tie.Need-loop-again Inv-loop μ-loop
 loop-again c =
     let s = c .before .before .before .before .before .before .before .before .before .before .before in
-    let ex = c .before .before .before .before .without .ensures ∙ without-split (s .args .n) (s .args .y) _ (c .before .before .before .before .before .before .before .before .lowest .result) (s .pre .1) (s .pre .2) (c .before .before .before .before .before .before .before .before .before .if1 .left) (c .before .before .before .before .before .before .before .before .lowest .ensures) in
-    (omega arith, listed-more (s .args .n) (s .args .y) (s .args .sides .now) (s .args .out .now) (s .pre .3) (c .before .before .before .before .before .before .before .loop .out) (c .before .before .before .before .before .before .before .loop .len) (c .before .before .before .before .before .before .before .loop .i) (c .before .before .before .before .before .before .before .loop .inv .0) (c .before .before .before .before .before .before .before .loop .inv .1) (c .before .before .before .before .without .result) (c .before .before .before .before .before .before .loop-test .taken) ex _ _ (c .before .before .add .ensures))
+    let ex = c .before .before .before .before .number .ensures ∙ split-wide (s .args .n) most (s .args .y) _ (s .pre .1) (s .pre .2) in
+    (omega arith, listed-more (s .args .n) (s .args .y) (s .args .sides .now) (s .args .out .now) (s .pre .3) (c .before .before .before .before .before .before .before .loop .out) (c .before .before .before .before .before .before .before .loop .len) (c .before .before .before .before .before .before .before .loop .i) (c .before .before .before .before .before .before .before .loop .inv .0) (c .before .before .before .before .before .before .before .loop .inv .1) (c .before .before .before .before .number .result) (c .before .before .before .before .before .before .loop-test .taken) ex _ _ (c .before .before .add .ensures))
 
 same-length : tie.Need-same-length Inv-loop μ-loop
 same-length c =
@@ -92,9 +94,9 @@ list-spec =
     mul-m
     sub-m
     loop-holds
-    mul-without
-    element-copy-out-without
-    without-requires
+    mul-number
+    element-copy-out-number
+    number-requires
     add-requires
     add-i
     loop-less
