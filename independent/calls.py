@@ -278,9 +278,7 @@ def second_tree(pick, n, tree):
         return making.make_tree(pick, n)
     if way == 2:
         return making.make_tree(pick, making.make_count(pick))
-    for _ in range(pick.randint(1, 3)):
-        tree = making.accepted_move(pick, n, tree)[1]
-    return making.same_tree(pick, n, tree)
+    return making.near_tree(pick, n, tree)
 
 
 def make_compare(pick):
@@ -290,6 +288,20 @@ def make_compare(pick):
     if chance(pick, 20):
         second = pick.choice([making.wrong_table(pick, n, tree), any_length(pick, tree)])
     return Call("compare", n=said, first=first, table=second, value=any_partition(pick, n))
+
+
+def make_divided_list(pick):
+    """A tree, a partition made for one of its splits, and output that is mostly enough."""
+    n, tree, _, partition = making.divided_trees(pick)
+    room = 2 * n - 3 if chance(pick, 90) else pick.randrange(2 * n - 3)
+    return Call("induced_splits", n=n, table=tree, value=partition,
+                out=some_bytes(pick, 8 * room))
+
+
+def make_divided_comparison(pick):
+    """Two trees and a partition made for a split that the second lacks."""
+    n, first, second, partition = making.divided_trees(pick)
+    return Call("compare", n=n, first=first, table=second, value=partition)
 
 
 def make_apply_move(pick):
@@ -500,7 +512,8 @@ def make_step(pick):
 
 MAKERS = ([make_check_tree] * 10 + [make_induced_splits] * 12 + [make_compare] * 12
           + [make_apply_move] * 14 + [make_judge_move] * 12 + [make_judge_one] * 10
-          + [make_list_move] * 15 + [make_start] + [make_step] * 20)
+          + [make_list_move] * 15 + [make_start] + [make_step] * 20
+          + [make_divided_list] * 8 + [make_divided_comparison] * 8)
 
 
 def make_call(pick):

@@ -30,6 +30,31 @@ AFTER = [
 ]
 REFUSED_MOVES = [((2, 0, 1, 0), 10), ((2, 0, 0, 0), 9), ((2, 0, 9, 0), 8), ((3, 0, 1, 3), 9)]
 
+# The lists of splits of tree S, and of the tree after SPR 0,7, worked out by hand.
+LISTS = [
+    (ALL, [1, 2, 3, 4, 8, 16, 32, 48, 56]),
+    ([0, 1, 4, 5], [1, 2, 16, 32, 48]),
+    ([3, 4, 5], [8, 16, 32]),
+    ([2, 4], [16]),
+    ([0, 1, 2, 3], [1, 2, 4, 8, 12]),
+    ([1, 2, 3, 4, 5], [2, 4, 6, 8, 16, 32, 48]),
+    ([0, 1], [2]),
+    ([5], []),
+    ([], []),
+]
+LISTS_AFTER_SPR = [
+    (ALL, [1, 2, 4, 6, 8, 14, 16, 17, 32]),
+    ([0, 1, 2, 4], [1, 2, 4, 6, 16]),
+]
+# Tree S compared with the tree after the move, then that with S.
+COMPARISONS = [
+    ((1, 4, 3, 5), ALL, (2, 56), (2, 52)),
+    ((1, 4, 3, 5), [0, 2, 3, 4], (2, 24), (2, 20)),
+    ((1, 4, 3, 5), [0, 1, 4, 5], (0, 0), (0, 0)),
+    ((2, 0, 7, 0), ALL, (6, 3), (6, 6)),
+    ((2, 0, 7, 0), [0, 1, 2, 3], (2, 12), (2, 6)),
+]
+
 # For a number of taxa and a text that is no tree, the place.
 NEWICK_PLACES = [
     (4, b"", 0), (4, b"(0,1,2", 5), (4, b"((((", 3), (4, b" (", 0),
@@ -59,8 +84,7 @@ def check_document():
         b"1 1 changed 2\n1 2 same 0\n1 saved 1 pt5\nend 1\n")
     assert tusvlane.listing(EXAMPLE[:-1] + b"\3") == b"refused 9 at 47\n"
     for move, taxa, distance in DISTANCES:
-        partition = sum(1 << taxon for taxon in taxa)
-        assert tusvlane.judge_one(6, TREE_S, partition, move) == distance
+        assert tusvlane.judge_one(6, TREE_S, partition_of(taxa), move) == distance
     for move, changed in AFTER:
         rows = tusvlane.rows_of(TREE_S)
         for number, row in changed.items():
@@ -73,6 +97,33 @@ def check_document():
     apart = bytes.fromhex("0001 0405 0405 0204 0305")
     assert number_of(tusvlane.check_tree, 4, apart) == 5
     assert number_of(tusvlane.judge_one, 6, TREE_S, 1 << 6, (1, 4, 3, 5)) == 6
+
+
+def partition_of(taxa):
+    """The taxa as a partition."""
+    return sum(1 << taxon for taxon in taxa)
+
+
+def check_numbers():
+    """Lists and comparisons on small trees."""
+    after_spr = tusvlane.apply_move(6, TREE_S, (2, 0, 7, 0))
+    for tree, lists in [(TREE_S, LISTS), (after_spr, LISTS_AFTER_SPR)]:
+        for taxa, numbers in lists:
+            assert tusvlane.induced_splits(6, tree, partition_of(taxa), 9) == numbers
+    for move, taxa, there, back in COMPARISONS:
+        after = tusvlane.apply_move(6, TREE_S, move)
+        assert tusvlane.compare(6, TREE_S, after, partition_of(taxa)) == there
+        assert tusvlane.compare(6, after, TREE_S, partition_of(taxa)) == back
+
+
+def check_line():
+    """The list of a tree of 43 taxa along a line: no split is written by more than 21 taxa."""
+    rows = [(0, 43)] + [(taxon, 42 + taxon) for taxon in range(1, 42)] + [(42, 83)]
+    line = tusvlane.table_of(rows + [(inner, inner + 1) for inner in range(43, 83)])
+    numbers = tusvlane.induced_splits(43, line, 2 ** 43 - 1, 83)
+    lower = [2 ** size - 1 for size in range(2, 22)]
+    upper = [2 ** 43 - 2 ** size for size in range(22, 42)]
+    assert numbers == sorted([1 << taxon for taxon in range(43)] + lower + upper)
 
 
 def check_sides():
@@ -106,4 +157,6 @@ def check_newick():
 def check():
     """All of it; a failed assertion names the line."""
     check_document()
+    check_numbers()
+    check_line()
     check_sides()

@@ -124,6 +124,16 @@ def wrong_table(pick, n, table):
 
 # Partitions.
 
+def taxa_in(partition):
+    """The taxa of a set, ascending."""
+    return [taxon for taxon in range(64) if partition >> taxon & 1]
+
+
+def set_of(taxa):
+    """The taxa as a set."""
+    return sum(1 << taxon for taxon in taxa)
+
+
 def make_partition(pick, n):
     """A set of taxa: mostly 70 in 100 cells empty; also none, all, and 1 to 4 taxa."""
     way = pick.randrange(10)
@@ -132,8 +142,8 @@ def make_partition(pick, n):
     if way == 1:
         return (1 << n) - 1
     if way <= 3:
-        return sum(1 << taxon for taxon in pick.sample(range(n), pick.randint(1, 4)))
-    return sum(1 << taxon for taxon in range(n) if pick.random() < 0.3)
+        return set_of(pick.sample(range(n), pick.randint(1, 4)))
+    return set_of(taxon for taxon in range(n) if pick.random() < 0.3)
 
 
 def foreign_partition(pick, n):
@@ -143,6 +153,43 @@ def foreign_partition(pick, n):
         return partition
     return pick.choice([partition | 1 << n, partition | 1 << pick.randint(n, 63),
                         partition | 1 << 63, EVERY_BIT])
+
+
+def equal_parts(pick, few, many):
+    """As many taxa of the one as of the other, often all that there are."""
+    size = pick.choice([len(few), pick.randint(1, len(few))])
+    return pick.sample(few, size), pick.sample(many, size)
+
+
+def nearly_equal_parts(pick, few, many):
+    """Equal parts, but one or two taxa of either are left out again; never all of them."""
+    few, many = equal_parts(pick, few, many)
+    shorter = pick.choice([few, many])
+    del shorter[1:1 + pick.randint(1, 2)]
+    return few, many
+
+
+def unequal_parts(pick, few, many):
+    """Up to three taxa of either and most of the other; often the lowest is of the few."""
+    few, many = pick.choice([(few, many), (many, few)])
+    few = pick.sample(few, min(len(few), pick.randint(1, 3)))
+    many = pick.sample(many, max(len(many) - pick.randrange(4), 1))
+    if pick.random() < 0.6 and max(many) > min(few):
+        many = [taxon for taxon in many if taxon > min(few)]
+    return few, many
+
+
+def divided_partition(pick, n, splits):
+    """A partition that one of the splits divides into halves, nearly halves, or few and many.
+
+    The splits are sides over all taxa, either of the two; even ones are taken more often."""
+    drawn = [pick.choice(splits) for _ in range(pick.choice([1, 2, 4, 16]))]
+    side = min(drawn, key=lambda taxa: abs(n - 2 * tusvlane.set_size(taxa)))
+    few, many = sorted([taxa_in(side), taxa_in(((1 << n) - 1) & ~side)], key=len)
+    parts = pick.choice([equal_parts, equal_parts, nearly_equal_parts, unequal_parts,
+                         unequal_parts])
+    one, other = parts(pick, few, many)
+    return set_of(one + other)
 
 
 def make_partitions(pick, n, count):
@@ -191,6 +238,35 @@ def accepted_move(pick, n, table):
             return move, tusvlane.moved(n, table, move)
         except tusvlane.Refused:
             pass
+
+
+def near_tree(pick, n, tree):
+    """The tree after one to three moves, its inner nodes and rows numbered anew."""
+    for _ in range(pick.randint(1, 3)):
+        tree = accepted_move(pick, n, tree)[1]
+    return same_tree(pick, n, tree)
+
+
+def nni_neighbour(pick, n, tree):
+    """The tree after one NNI: one split is another."""
+    rows = tusvlane.rows_of(tree)
+    return tusvlane.moved(n, tree, draw_nni(pick, n, rows, tusvlane.rows_at(n, rows)))
+
+
+def another_tree(pick, n, tree):
+    """Any tree of the same taxa."""
+    return make_tree(pick, n)
+
+
+def divided_trees(pick):
+    """Two trees of n taxa, and a partition made for a split that the second lacks, if any."""
+    n = pick.choice([make_count(pick), make_count(pick), pick.randint(40, 64)])
+    first = make_tree(pick, n)
+    second = pick.choice([nni_neighbour, near_tree, another_tree])(pick, n, first)
+    every_taxon = (1 << n) - 1
+    splits = tusvlane.split_set(n, first, every_taxon)
+    lacking = splits - tusvlane.split_set(n, second, every_taxon)
+    return n, first, second, divided_partition(pick, n, sorted(lacking or splits))
 
 
 def wild_move(pick, n):

@@ -121,17 +121,35 @@ def sides(n, table):
     return [beyond(number, row[1]) for number, row in enumerate(rows)]
 
 
+def set_size(taxa):
+    """How many taxa a set of taxa has."""
+    return bin(taxa).count("1")
+
+
+def side_without_lowest(one, other):
+    """Of the two sides of a split, the one that does not hold the lowest taxon."""
+    both = one | other
+    lowest = both & -both
+    return other if one & lowest else one
+
+
+def split_number(one, other):
+    """The number of a split: its smaller side; of equal sides, the one without the lowest."""
+    if set_size(one) == set_size(other):
+        return side_without_lowest(one, other)
+    return min(one, other, key=set_size)
+
+
+def cut_sides(n, table, partition):
+    """For each row its two sides cut down to the partition, where neither is empty."""
+    pairs = [(side & partition, partition & ~side) for side in sides(n, table)]
+    return [(one, other) for one, other in pairs if one and other]
+
+
 @functools.lru_cache(maxsize=512)
 def split_set(n, table, partition):
     """The induced split set over the partition, each split as its number."""
-    lowest = partition & -partition
-    numbers = set()
-    for side in sides(n, table):
-        one = side & partition
-        other = partition & ~side
-        if one and other:
-            numbers.add(other if one & lowest else one)
-    return numbers
+    return {split_number(one, other) for one, other in cut_sides(n, table, partition)}
 
 
 def distance_of_sets(first, second):

@@ -2,7 +2,7 @@
 use mathlib.Core.Path.{_≡_, refl}
 use mathlib.Core.Bool.{true}
 use lib.Count.{trailingZeros}
-use Rattle.taxa.specs.Sets.{has, add, less, some, lowest}
+use Rattle.taxa.specs.Sets.{has, add, less, some, size, lowest}
 use Rattle.tree.specs.Tree.{far, others, every, count, round, rounds, part}
 use Rattle.tree.specs.Lists.{mem, insert, lacks}
 use Rattle.tree.specs.Splits.{side, meets, splitBy, splitsTo, splitsBy, holdsLowest, flips, dist}
@@ -23,5 +23,5 @@ tree-S = accepted-iff 6 treeS .0 said
 -- each of the eleven moves passes its checks, and has the distance of the
 -- table both by the split sets and by the papers' rule
 pub table : allHold cases ≡ true
-unfolding trailingZeros has add less some lowest far others round rounds part mem insert lacks side meets splitBy splitsTo splitsBy holdsLowest flips dist put nni nniFits endWith moveEnd spr stayOr tbr target moved kindRight rowsRight fits anyMoves beyond leads walk groups stayed met rule nniRule sprRule tbrRule moveRule treeS cases holds allHold
+unfolding trailingZeros has add less some size lowest far others round rounds part mem insert lacks side meets splitBy splitsTo splitsBy holdsLowest flips dist put nni nniFits endWith moveEnd spr stayOr tbr target moved kindRight rowsRight fits anyMoves beyond leads walk groups stayed met rule nniRule sprRule tbrRule moveRule treeS cases holds allHold
 table = refl

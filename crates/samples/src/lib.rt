@@ -14,6 +14,9 @@ pub const S_AGAIN: [u8; 18] = [5, 7, 2, 8, 0, 9, 6, 8, 1, 9, 4, 7, 8, 9, 3, 6, 6
 // Tree S after the exchange of rows 3 and 5 across row 4.
 pub const S_MOVED: [u8; 18] = [0, 6, 1, 6, 6, 7, 2, 8, 7, 8, 3, 7, 8, 9, 4, 9, 5, 9];
 
+// Tree S after the SPR of row 0 to row 7, as document 01 has it.
+pub const S_PRUNED: [u8; 18] = [0, 6, 1, 7, 6, 9, 2, 7, 7, 8, 3, 8, 8, 9, 4, 6, 5, 9];
+
 // Tree S with the larger end of its first row first.
 pub const S_TURNED: [u8; 18] = [6, 0, 1, 6, 6, 7, 2, 7, 7, 8, 3, 8, 8, 9, 4, 9, 5, 9];
 

@@ -34,10 +34,20 @@ fn number(low: usize, y: u64, s: u64) -> u64
     requires { ⌜ (low ≡ lowest most y) × (low < most) ⌝ }
     ensures { λ x. ⌜ x ≡ splits_spec.split most y s ⌝ }
 {
-    if taxa::has(s, low) {
-        return taxa::less(y, s);
+    let inside = s & y;
+    let outside = taxa::less(y, s);
+    let own = taxa::size(inside);
+    let other = taxa::size(outside);
+    if own < other {
+        return inside;
     }
-    s & y
+    if other < own {
+        return outside;
+    }
+    if taxa::has(s, low) {
+        return outside;
+    }
+    inside
 }
 
 // Puts the number x into the first len of out, unless it is 0; the new count.

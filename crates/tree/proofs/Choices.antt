@@ -2,7 +2,7 @@
 -- Assumes nothing.
 use mathlib.Core.Path.{_≡_, refl, sym, ap, ap₂, _∙_}
 use mathlib.Core.Logic.{_⊎_, inl, inr}
-use mathlib.Core.Bool.{Bool, true, false, not, _&&_, _||_, true≢false, false≢true, or-true}
+use mathlib.Core.Bool.{Bool, true, false, not, _&&_, _||_, true≢false, false≢true, and-comm, or-true}
 use mathlib.Core.List.{List}
 use Prim.Native.Nat.{ℕ, zero, suc, _^_, _<_}
 use native.Mathlib.Nat.{le-refl}
@@ -11,7 +11,7 @@ use lib.Dec.{eqb}
 use lib.Bits.{bitAnd}
 use borrow.Author.Tests.{eqb-true, eqb-false, eq-eqb}
 use Rattle.taxa.specs.Sets.{pick, has, less, some, Sub}
-use Rattle.taxa.proofs.Bools.{either, and-left, and-right, and-both, and-true-l, and-when, and-when′, or-cases, _⊕_, xor-cancel, xor-same}
+use Rattle.taxa.proofs.Bools.{either, and-left, and-right, and-both, and-true-l, and-when, and-when′, or-cases, _⊕_, xor-cancel, xor-assoc, xor-same}
 use Rattle.taxa.proofs.Sets.{has-and, has-less, ext, some-mono}
 use Rattle.tree.specs.Tree.{rows}
 use Rattle.tree.specs.Lists.{insert, mem}
@@ -30,12 +30,18 @@ pub record Fair (c : Choice) : Type 0 where
   pub kept : (n y s : ℕ) → y < 2 ^ n → some (splitBy c n y s) ≡ true → meets y s ≡ true
 
 -- ---- a split's members
-split-test : (c p q : Bool) → pick c (q && not p) (p && q) ≡ (q && (c ⊕ p))
-split-test true p q = refl
-split-test false true true = refl
-split-test false true false = refl
-split-test false false true = refl
-split-test false false false = refl
+pub has-side : (b : Bool) (y s i : ℕ) → has (pick b (less y s) (bitAnd s y)) i ≡ (has y i && (b ⊕ has s i))
+has-side true y s i = has-less y s i
+has-side false y s i = has-and s y i ∙ and-comm (has s i) (has y i)
+
+-- sets that agree on y make the same two sides; sets that disagree on all of
+-- it, the same two exchanged
+pub side-like : (b d : Bool) (y s s′ : ℕ) → Like y d s s′
+    → pick b (less y s) (bitAnd s y) ≡ pick (b ⊕ d) (less y s′) (bitAnd s′ y)
+side-like b d y s s′ h = ext (pick b (less y s) (bitAnd s y)) (pick (b ⊕ d) (less y s′) (bitAnd s′ y)) (λ i.
+    has-side b y s i
+    ∙ and-when (has y i) (b ⊕ has s i) (b ⊕ d ⊕ has s′ i) (λ p. ap (λ (q : Bool). b ⊕ q) (h i p) ∙ xor-assoc b d (has s′ i))
+    ∙ sym (has-side (b ⊕ d) y s′ i))
 
 module _ (c : Choice) where
   pub other-by : (n y s : ℕ) → c n y s ≡ true → less y s ≡ splitBy c n y s
@@ -48,11 +54,7 @@ module _ (c : Choice) where
 
   has-by : (n y s i : ℕ) → has (splitBy c n y s) i ≡ (has y i && (c n y s ⊕ has s i))
   unfolding splitBy
-  has-by n y s i = go (c n y s) ∙ split-test (c n y s) (has s i) (has y i)
-    where
-      go : (b : Bool) → has (pick b (less y s) (bitAnd s y)) i ≡ pick b (has y i && not (has s i)) (has s i && has y i)
-      go true = has-less y s i
-      go false = has-and s y i
+  has-by n y s i = has-side (c n y s) y s i
 
   -- equal splits come from sets that are the same over y, or each other's
   -- complement

@@ -3,9 +3,9 @@
 use Prim.Native.Nat.{ℕ, zero, suc, _+_, _*_, _-_, _^_, _%_, _<_}
 use mathlib.Core.Bool.{Bool, _&&_}
 use mathlib.Core.List.{List, [], _∷_}
-use lib.Dec.{eqb}
+use lib.Dec.{eqb, ltb}
 use lib.Bits.{bitAnd}
-use Rattle.taxa.specs.Sets.{pick, tally, has, less, some, lowest, Sub}
+use Rattle.taxa.specs.Sets.{pick, tally, has, less, some, size, lowest, Sub}
 use Rattle.tree.specs.Tree.{lo, rows, part}
 use Rattle.tree.specs.Lists.{insert, lacks, firstLack}
 
@@ -51,9 +51,13 @@ members (suc (suc (suc m))) = 2 * suc (suc (suc m)) - 3
 unfoldable pub holdsLowest : Choice
 holdsLowest n y s = has s (lowest n y)
 
--- The side that is written: the one that does not hold the lowest taxon of y.
+-- The side that is written: the smaller; with equal sides, the one that does
+-- not hold the lowest taxon of y.
 unfoldable pub flips : Choice
-flips n y s = holdsLowest n y s
+flips n y s =
+    let inside = size n (bitAnd s y) in
+    let outside = size n (less y s) in
+    pick (eqb inside outside) (holdsLowest n y s) (ltb outside inside)
 
 -- The number of a split over y, and the list of them, ascending.
 abbrev pub split : ℕ → ℕ → ℕ → ℕ

@@ -10,6 +10,7 @@ use samples::MARK;
 use samples::S;
 use samples::S_AGAIN;
 use samples::S_MOVED;
+use samples::S_PRUNED;
 use splits::Compared;
 use splits::Induced;
 use table::Checked;
@@ -24,9 +25,8 @@ fn check(n: usize, t: &[u8], words: &[u8]) {
     line(words);
 }
 
-// Two lines for a list of splits: how many, or the refusal; and the whole lent
-// list after the call.
-fn list(n: usize, t: &[u8], y: u64, out: &mut [u64], words: &[u8]) {
+// A line for a list of splits: how many, or the refusal.
+fn count(n: usize, t: &[u8], y: u64, out: &mut [u64], words: &[u8]) {
     let c = splits::induced_splits(n, t, y, out);
     match c {
         Induced::Count(k) => {
@@ -39,6 +39,11 @@ fn list(n: usize, t: &[u8], y: u64, out: &mut [u64], words: &[u8]) {
         }
     }
     line(words);
+}
+
+// The same, and a line for the whole lent list after the call.
+fn list(n: usize, t: &[u8], y: u64, out: &mut [u64], words: &[u8]) {
+    count(n, t, y, out, words);
     numbers(out);
     line(b"in the list");
 }
@@ -138,6 +143,51 @@ fn lists_of_s() {
     list(2, &S, 64, &mut [MARK; 1], b"two taxa and bit 6");
 }
 
+// Lists with equal halves, each written by the side without the lowest taxon.
+fn halves() {
+    list(6, &S, 60, &mut [MARK; 5], b"S over 2, 3, 4, 5");
+    list(
+        6,
+        &S_PRUNED,
+        63,
+        &mut [MARK; 9],
+        b"S after SPR 0, 7 over all taxa",
+    );
+    list(
+        6,
+        &S_PRUNED,
+        15,
+        &mut [MARK; 5],
+        b"the same tree over 0, 1, 2, 3",
+    );
+}
+
+// A split of 3 taxa against 40 is written by the three, in a list and as the
+// one that the second tree lacks.
+fn three_and_forty() {
+    let t = samples::along();
+    let mut u = samples::along();
+    u[6] = 3;
+    u[10] = 2;
+    let mut out = [MARK; 83];
+    count(
+        64,
+        &t,
+        8796093022207,
+        &mut out,
+        b"64 taxa along a line over 0 to 42",
+    );
+    numbers(&out[..6]);
+    line(b"first in the list; 7 is 0, 1, 2 against 40");
+    compare(
+        64,
+        &t,
+        &u,
+        8796093022207,
+        b"2 and 3 exchanged, over 0 to 42",
+    );
+}
+
 // Compares tree S with itself and with another tree, then what a comparison
 // refuses.
 fn comparisons() {
@@ -147,6 +197,9 @@ fn comparisons() {
     compare(6, &S, &S_MOVED, 29, b"the same over 0, 2, 3, 4");
     compare(6, &S, &S_MOVED, 51, b"the same over 0, 1, 4, 5");
     compare(6, &S, &S_MOVED, 0, b"the same over none");
+    compare(6, &S, &S_PRUNED, 63, b"S and S after SPR 0, 7");
+    compare(6, &S_PRUNED, &S, 63, b"the other way round");
+    compare(6, &S, &S_PRUNED, 15, b"S and that tree over 0, 1, 2, 3");
     compare(6, &S, &S_MOVED, 64, b"bit 6 with six taxa");
     compare(6, &S, &S[..10], 64, b"a short second table and bit 6");
     compare(6, b"", &S[..10], 64, b"both tables short");
@@ -166,5 +219,7 @@ fn main() {
     rows_and_nodes();
     largest();
     lists_of_s();
+    halves();
+    three_and_forty();
     comparisons();
 }
