@@ -48,6 +48,14 @@ fn list(n: usize, t: &[u8], y: u64, out: &mut [u64], words: &[u8]) {
     line(b"in the list");
 }
 
+// A line for the first six numbers of a list.
+fn head(out: &[u64], words: &[u8]) {
+    if out.len() >= 6 {
+        numbers(&out[..6]);
+    }
+    line(words);
+}
+
 // A line for a comparison: the distance and the missing split, or the refusal.
 fn compare(n: usize, t: &[u8], u: &[u8], y: u64, words: &[u8]) {
     let c = splits::compare(n, t, u, y);
@@ -177,8 +185,7 @@ fn three_and_forty() {
         &mut out,
         b"64 taxa along a line over 0 to 42",
     );
-    numbers(&out[..6]);
-    line(b"first in the list; 7 is 0, 1, 2 against 40");
+    head(&out, b"first in the list; 7 is 0, 1, 2 against 40");
     compare(
         64,
         &t,
