@@ -1,17 +1,20 @@
 -- The three demands of the request, over the definitions, each theorem with a
 -- plain sentence above it. Assumes nothing.
-use mathlib.Core.Path.{_≡_}
+use mathlib.Core.Path.{_≡_, ap}
 use mathlib.Core.Logic.{_↔_}
+use mathlib.Core.Bool.{true}
 use mathlib.Core.List.{List, _++_}
 use Prim.Native.Nat.{ℕ, suc, _*_, _^_, _≤_, _<_}
 use native.Mathlib.Omega.{arith}
 use lib.ListN.{length}
 use Rattle.taxa.specs.Sets.{Sub}
 use Rattle.tree.specs.Tree.{rows, Valid}
-use Rattle.tree.specs.Splits.{splits, dist, distances, unchanged, Gains}
+use Rattle.tree.specs.Lists.{mem}
+use Rattle.tree.specs.Splits.{holdsLowest, splits, distBy, dist}
+use Rattle.tree.specs.Splits.{distancesBy, distances, unchanged, Gains}
 use Rattle.tree.specs.Refusals.{Said, gives, refuses, written, Accepted}
 use Rattle.tree.proofs.RefusalLaws.{Pass}
-use Rattle.tree.proofs.Monotone.{dist-mono}
+use Rattle.tree.proofs.Monotone.{dist-lowest, distances-lowest, dist-mono}
 use Rattle.table.specs.Says.{numberOf, checkSays}
 use Rattle.table.specs.declared.Checked.{Checked}
 use Rattle.table.specs.declared.Refusal.{Refusal}
@@ -296,6 +299,17 @@ steps-list = run-is-listing
 -- Every written line is ASCII, with one line feed and no blank at its end.
 pub plain-lines : (j : List ℕ) → Plain (job.listing j)
 plain-lines = listing-plain
+
+-- By which side a split is written changes no distance and no line of a
+-- listing: they are those that the sides without the lowest taxon give.
+pub distance-any-side : (n : ℕ) (t u : List ℕ) (y : ℕ) → y < 2 ^ n
+    → dist n t u y ≡ distBy holdsLowest n t u y
+distance-any-side = dist-lowest
+
+pub lines-any-side : (n : ℕ) (t u ys : List ℕ)
+    → ((y : ℕ) → mem y ys ≡ true → y < 2 ^ n) → (m : ℕ)
+    → moveLines m (distances n t u ys) ≡ moveLines m (distancesBy holdsLowest n t u ys)
+lines-any-side n t u ys h m = ap (moveLines m) (distances-lowest n t u ys h)
 
 -- ==== Demand 3: more species never lower a distance.
 

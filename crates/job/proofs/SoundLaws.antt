@@ -13,7 +13,7 @@ use Rattle.taxa.specs.Sets.{size}
 use Rattle.taxa.proofs.Bools.{and-left, and-right, and-both}
 use Rattle.taxa.proofs.Sizes.{size-le}
 use Rattle.tree.specs.Tree.{rows}
-use Rattle.tree.specs.Splits.{splits, dist, distances}
+use Rattle.tree.specs.Splits.{splits, distBy, dist, distancesBy, distances}
 use Rattle.tree.specs.Refusals.{each, tableChecks, Accepted}
 use Rattle.tree.proofs.Lists.{lacks-most}
 use Rattle.tree.proofs.Members.{members-count, members-is}
@@ -115,7 +115,7 @@ module _ (job : List ℕ) (k : Known) (s : Sound job k) where
 
 -- The distance of two trees is small.
 dist-few : (n : ℕ) (t u : List ℕ) (y : ℕ) → Accepted n t → Accepted n u → ltb y (2 ^ n) ≡ true → dist n t u y < 2 ^ 64
-unfolding dist
+unfolding distBy
 dist-few n t u y a b l =
     let w = ltb-true y (2 ^ n) l in
     omega (
@@ -132,7 +132,7 @@ dist-few n t u y a b l =
 -- The lines of some partitions have few bytes.
 verdicts-few : (n : ℕ) (t u : List ℕ) (m p : ℕ) (ys : List ℕ) → Accepted n t → Accepted n u → m < 2 ^ 64 → p + length ys < 2 ^ 64 → each (λ y. ltb y (2 ^ n)) ys ≡ true
     → length (verdictLines m p (distances n t u ys)) ≤ 80 * length ys
-unfolding verdictLines distances each
+unfolding verdictLines distancesBy each
 verdicts-few n t u m p [] a b hm hp h = omega arith
 verdicts-few n t u m p (y ∷ ys) a b hm hp h =
     let d = dist n t u y in

@@ -10,7 +10,7 @@ use native.Mathlib.Omega.{arith}
 use Rattle.taxa.specs.Sets.{pick, has}
 use Rattle.taxa.proofs.Sets.{has-below}
 use Rattle.tree.specs.Tree.{lo, hi, rows, nodes, far, part}
-use Rattle.tree.specs.Splits.{splits, dist}
+use Rattle.tree.specs.Splits.{splits, distBy, dist}
 use Rattle.tree.proofs.Rounds.{part-start}
 use Rattle.tree.proofs.Joins.{Joins, touch-joins, joins-flip, joins-same, joins-nodes, far-is, joins-differ}
 use Rattle.tree.proofs.Colourings.{hangs, two-sides, valid-table, part-is}
@@ -97,7 +97,7 @@ module _ {n : ℕ} {t t′ : List ℕ} {a w h b F N X p q r s u z : ℕ} (k : Gr
 
   pub two-rule : (y : ℕ) (gs : List ℕ) → y < 2 ^ n → Chain n y (part n t a q) gs (splits n t y) (splits n t′ y) → Covers n gs (part n t a p)
       → dist n t (moveEnd n t′ q a c) y ≡ rule (met y gs) (met y (walk n t c (nodes n) q a))
-  unfolding dist
+  unfolding distBy
   two-rule y gs bound C cov =
       two-dist C (second y bound) (λ i yi. other-side i (node i (has-below n y i bound yi)))
       ∙ ap₂ (λ (x x′ : Bool). pick x (2 * (met y gs - 2)) 0 + pick x′ (2 * (met y hs - 2)) 0)

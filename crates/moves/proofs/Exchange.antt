@@ -15,7 +15,7 @@ use Rattle.taxa.proofs.Bools.{either, _⊕_}
 use Rattle.taxa.proofs.Sets.{has-below}
 use Rattle.tree.specs.Tree.{lo, hi, rows, nodes, part, Valid}
 use Rattle.tree.specs.Lists.{mem, lacks}
-use Rattle.tree.specs.Splits.{split, splits, dist}
+use Rattle.tree.specs.Splits.{split, splits, distBy, dist}
 use Rattle.tree.proofs.Joins.{join-flat, flat-join, join-apart, apart-join}
 use Rattle.tree.proofs.Bridges.{Table}
 use Rattle.tree.proofs.Colourings.{Parts, Hangs, row-parts, valid-table, never-cross}
@@ -320,7 +320,7 @@ module _ (n : ℕ) (t t′ : List ℕ) (e x y f g p q a b c d : ℕ) (k : Exchan
 -- ---- Proposition 1: where one of the four groups misses Y nothing changes, and where all four meet Y one split is lost and one is new
 pub exchange-same : (n : ℕ) (t t′ : List ℕ) (e x y f g p q a b c d : ℕ) (k : Exchange n t t′ e x y f g p q a b c d) (A B C D : ℕ) → Four n t x y f g p q A B C D
     → (Y : ℕ) → Y < 2 ^ n → (Miss Y A ⊎ Miss Y B) ⊎ (Miss Y C ⊎ Miss Y D) → dist n t t′ Y ≡ 0
-unfolding dist
+unfolding distBy
 exchange-same n t t′ e x y f g p q a b c d k A B C D four Y bound m =
     ap₂ _+_
     (lacks-none (splits n t Y) (splits n t′ Y) (missed n t t′ e x y f g p q a b c d k A B C D four Y bound m))
@@ -335,7 +335,7 @@ exchange-same n t t′ e x y f g p q a b c d k A B C D four Y bound m =
 
 pub exchange-changed : (n : ℕ) (t t′ : List ℕ) (e x y f g p q a b c d : ℕ) (k : Exchange n t t′ e x y f g p q a b c d) (A B C D : ℕ) → Four n t x y f g p q A B C D
     → (Y : ℕ) → Y < 2 ^ n → Met Y A → Met Y B → Met Y C → Met Y D → dist n t t′ Y ≡ 2
-unfolding dist
+unfolding distBy
 exchange-changed n t t′ e x y f g p q a b c d k A B C D four Y bound mA mB mC mD =
     ap₂ _+_
     (lacks-it n t t′ e x y f g p q a b c d k A B C D four Y bound mA mB mC mD)

@@ -11,7 +11,7 @@ use borrow.Author.Tests.{eqb-true, eqb-false}
 use Rattle.taxa.specs.Sets.{pick, has, some}
 use Rattle.taxa.proofs.Bools.{either}
 use Rattle.tree.specs.Tree.{rows, nodes, touches, far, part}
-use Rattle.tree.specs.Splits.{splits, dist}
+use Rattle.tree.specs.Splits.{splits, distBy, dist}
 use Rattle.tree.proofs.Joins.{Joins, touch-joins, joins-touch, joins-flip, joins-differ, touch-node, far-is}
 use Rattle.tree.proofs.Colourings.{Hangs, hangs}
 use Rattle.tree.proofs.RowCounts.{Pair, pair}
@@ -206,5 +206,5 @@ module _ {n : ℕ} {t : List ℕ} {p a b : ℕ} (k : EndFits n t p a b) where
 
   pub move-dist : (W y : ℕ) → Taxa n W (part n t a (far t a p)) → y < 2 ^ n
       → dist n t (moveEnd n t p a b) y ≡ pick (some (bitAnd W y)) (2 * (met y (walk n t b (nodes n) p a) - 2)) 0
-  unfolding dist
+  unfolding distBy
   move-dist W y tw bound = chain-dist (move-chain W y tw bound)

@@ -8,7 +8,7 @@ use native.Mathlib.Omega.{arith}
 use Rattle.taxa.specs.Sets.{pick}
 use Rattle.taxa.proofs.Bools.{not-both}
 use Rattle.tree.specs.Tree.{lo, hi, rows, nodes, touches, far, part, Valid}
-use Rattle.tree.specs.Splits.{splits, dist}
+use Rattle.tree.specs.Splits.{splits, distBy, dist}
 use Rattle.tree.proofs.Rounds.{part-start}
 use Rattle.tree.proofs.Joins.{lo-touch, hi-touch, far-lo, far-hi}
 use Rattle.tree.proofs.Lists.{lacks-none}
@@ -40,7 +40,7 @@ module _ {n : ℕ} {t : List ℕ} {a b c : ℕ} (low : Aim n t a (lo t a) b) (hi
   Goal t₂ = Valid n t₂ × ((y : ℕ) → y < 2 ^ n → dist n t t₂ y ≡ rule (met y (groups n t a (lo t a) b)) (met y (groups n t a (hi t a) c)))
 
   none-moves : touches t b (lo t a) ≡ true → touches t c (hi t a) ≡ true → Goal t
-  unfolding dist
+  unfolding distBy
   none-moves tb tc = (
     low .valid,
     λ y bound.

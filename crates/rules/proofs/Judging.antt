@@ -15,7 +15,7 @@ use borrow.Author.Tests.{ltb-true, eqb-true, eq-eqb}
 use Rattle.taxa.specs.Sets.{tally, some}
 use Rattle.taxa.proofs.Sizes.{tally-one}
 use Rattle.taxa.proofs.Bools.{and-left, and-right, and-both, bool-eq}
-use Rattle.tree.specs.Splits.{dist, distances, unchanged}
+use Rattle.tree.specs.Splits.{dist, distancesBy, distances, unchanged}
 use Rattle.tree.specs.Refusals.{each}
 use Rattle.moves.specs.Groups.{met}
 use Rattle.moves.proofs.GroupLists.{met-le}
@@ -102,17 +102,17 @@ module _ {f : ℕ → ℕ} (ys : List ℕ) {o : List ℕ} (i : ℕ) (within : i 
 
 -- ---- the numbers are distances
 pub mapped-distances : (f : ℕ → ℕ) (n : ℕ) (t u ys : List ℕ) → each (λ y. ltb y (2 ^ n)) ys ≡ true → ((y : ℕ) → y < 2 ^ n → f y ≡ dist n t u y) → mapped f ys ≡ distances n t u ys
-unfolding mapped distances each
+unfolding mapped distancesBy each
 mapped-distances f n t u [] h k = refl
 mapped-distances f n t u (y ∷ ys) h k =
     rw (k y (ltb-true y (2 ^ n) (and-left (ltb y (2 ^ n)) (each (λ z. ltb z (2 ^ n)) ys) h)), mapped-distances f n t u ys (and-right (ltb y (2 ^ n)) (each (λ z. ltb z (2 ^ n)) ys) h) k)
 
 pub zeros-unchanged : (n : ℕ) (t u ys : List ℕ) → zeros (distances n t u ys) ≡ unchanged n t u ys
-unfolding zeros distances unchanged
+unfolding zeros distancesBy unchanged
 zeros-unchanged n t u [] = refl
 zeros-unchanged n t u (y ∷ ys) = rw (zeros-unchanged n t u ys)
 
 pub distances-length : (n : ℕ) (t u ys : List ℕ) → length (distances n t u ys) ≡ length ys
-unfolding distances
+unfolding distancesBy
 distances-length n t u [] = refl
 distances-length n t u (y ∷ ys) = ap suc (distances-length n t u ys)

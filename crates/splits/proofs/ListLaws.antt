@@ -18,7 +18,7 @@ use Rattle.taxa.proofs.Sets.{has-below, some-zero, lowest-wide, lowest-lt}
 use Rattle.taxa.proofs.Sizes.{size-wide}
 use Rattle.tree.specs.Tree.{rows, Valid}
 use Rattle.tree.specs.Lists.{insert, lacks, firstLack}
-use Rattle.tree.specs.Splits.{side, meets, flips, split, splitsTo, splitsBy, splits, members, dist, missing}
+use Rattle.tree.specs.Splits.{side, meets, flips, split, splitsTo, splitsBy, splits, members, distBy, dist, missing}
 use Rattle.tree.proofs.SplitLaws.{some-meets, meets-some, nothing-split}
 use Rattle.tree.proofs.Members.{members-count}
 use Rattle.sides.specs.Filled.{Sides}
@@ -184,5 +184,5 @@ splits-few n t y = splits-to-few n t y (rows n)
 -- two trees
 pub compared-lists : (n : ℕ) (t u : List ℕ) (y : ℕ) (a b : List ℕ) → a ≡ splits n t y → b ≡ splits n u y
     → _≡_ {A = ℕ × ℕ} (lacks a b + lacks b a, firstLack a b) (dist n t u y, missing n t u y)
-unfolding dist missing
+unfolding distBy missing
 compared-lists n t u y a b p q = ap₂ (λ (x z : List ℕ). (lacks x z + lacks z x, firstLack x z)) p q

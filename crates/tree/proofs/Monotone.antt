@@ -5,7 +5,7 @@
 -- lacks that one too, or cutting it down would give the first. Different ones
 -- come from different ones, since cutting down gives them back.
 -- Assumes nothing.
-use mathlib.Core.Path.{_≡_, sym, ap, _∙_}
+use mathlib.Core.Path.{_≡_, refl, sym, ap, ap₂, _∙_}
 use mathlib.Core.Logic.{_⊎_, inl, inr, _↔_}
 use mathlib.Core.Bool.{true, false, true≢false}
 use mathlib.Core.List.{List, [], _∷_}
@@ -15,11 +15,11 @@ use native.Mathlib.Omega.{arith}
 use lib.Dec.{eqb}
 use borrow.Author.Tests.{eqb-true, eq-eqb}
 use Rattle.taxa.specs.Sets.{some, Sub}
-use Rattle.taxa.proofs.Bools.{either, bool-eq}
+use Rattle.taxa.proofs.Bools.{either, or-left, or-right, bool-eq}
 use Rattle.taxa.proofs.Sets.{sub-lt}
 use Rattle.taxa.proofs.Sizes.{tally-le, sub-refl}
 use Rattle.tree.specs.Lists.{mem, lacks}
-use Rattle.tree.specs.Splits.{side, Choice, splitBy, splitsBy, distBy, holdsLowest, flips, splits, dist, unchanged, Gains}
+use Rattle.tree.specs.Splits.{side, Choice, splitBy, splitsBy, distBy, distancesBy, holdsLowest, flips, splits, dist, distances, unchanged, Gains}
 use Rattle.tree.proofs.Lists.{lacks-le, lacks-none, none-lacks, asc-eq}
 use Rattle.tree.proofs.Choices.{Fair, some-by, twice-by, meets-mono, asc-by, into, out-of}
 use Rattle.tree.proofs.SideWritten.{lowest-fair, flips-fair}
@@ -56,22 +56,31 @@ module _ (c c′ : Choice) (fair : Fair c) (n y₁ y₂ : ℕ) (sub : Sub y₁ y
       lacks-le (splitBy c n y₁) (splitsBy c n t y₁) (splitsBy c n u y₁) (splitsBy c′ n t y₂) (splitsBy c′ n u y₂) (asc-by c n t y₁) (lifted t u)
 
   by-mono : (t u : List ℕ) → distBy c n t u y₁ ≤ distBy c′ n t u y₂
+  unfolding distBy
   by-mono t u = add-le-add (lacks-mono t u) (lacks-mono u t)
 
--- the distance is the same by every choice of side
-pub by-any : (c c′ : Choice) → Fair c → Fair c′ → (n : ℕ) (t u : List ℕ) (y : ℕ) → y < 2 ^ n → distBy c n t u y ≡ distBy c′ n t u y
-by-any c c′ fair fair′ n t u y bound =
-    le-antisymm (by-mono c c′ fair n y y (sub-refl y) bound t u) (by-mono c′ c fair′ n y y (sub-refl y) bound t u)
+-- ---- the distance is the same by every choice of side
+module _ (c c′ : Choice) (fair : Fair c) (fair′ : Fair c′) (n : ℕ) (t u : List ℕ) where
+  pub by-any : (y : ℕ) → y < 2 ^ n → distBy c n t u y ≡ distBy c′ n t u y
+  by-any y bound =
+      le-antisymm (by-mono c c′ fair n y y (sub-refl y) bound t u) (by-mono c′ c fair′ n y y (sub-refl y) bound t u)
 
--- and so by the side without the lowest taxon of y
+  each-any : (ys : List ℕ) → ((y : ℕ) → mem y ys ≡ true → y < 2 ^ n) → distancesBy c n t u ys ≡ distancesBy c′ n t u ys
+  unfolding distancesBy mem
+  each-any [] h = refl
+  each-any (y ∷ ys) h =
+      ap₂ _∷_ (by-any y (h y (or-left (eqb y y) (mem y ys) (eq-eqb y y refl)))) (each-any ys (λ z p. h z (or-right (eqb z y) (mem z ys) p)))
+
+-- and so what it was when the side without the lowest taxon of y was written
 pub dist-lowest : (n : ℕ) (t u : List ℕ) (y : ℕ) → y < 2 ^ n → dist n t u y ≡ distBy holdsLowest n t u y
-unfolding dist
 dist-lowest = by-any flips holdsLowest flips-fair lowest-fair
+
+pub distances-lowest : (n : ℕ) (t u ys : List ℕ) → ((y : ℕ) → mem y ys ≡ true → y < 2 ^ n) → distances n t u ys ≡ distancesBy holdsLowest n t u ys
+distances-lowest = each-any flips holdsLowest flips-fair lowest-fair
 
 -- ---- with the side that is written
 module _ (n y₁ y₂ : ℕ) (sub : Sub y₁ y₂) (bound₂ : y₂ < 2 ^ n) where
   pub dist-mono : (t u : List ℕ) → dist n t u y₁ ≤ dist n t u y₂
-  unfolding dist
   dist-mono = by-mono flips flips flips-fair n y₁ y₂ sub bound₂
 
   -- so more species never turn changed into same
@@ -93,7 +102,7 @@ unchanged-mono n t u (y ∷ ys) (z ∷ zs) g =
 
 -- ---- the same exactly when the induced split sets are equal
 pub same-iff : (n : ℕ) (t u : List ℕ) (y : ℕ) → (dist n t u y ≡ 0) ↔ (splits n t y ≡ splits n u y)
-unfolding dist
+unfolding distBy
 same-iff n t u y = (
   λ h. asc-eq (splits n t y) (splits n u y) (splits-asc n t y) (splits-asc n u y) (λ z.
       bool-eq (mem z (splits n t y)) (mem z (splits n u y)) (none-lacks (splits n t y) (splits n u y) (omega arith) z) (none-lacks (splits n u y) (splits n t y) (omega arith) z)),

@@ -66,16 +66,15 @@ split = splitBy flips
 abbrev pub splits : ℕ → List ℕ → ℕ → List ℕ
 splits = splitsBy flips
 
--- How many splits are in exactly one of the sets of two trees, by a choice of
--- side.
-abbrev pub distBy : Choice → ℕ → List ℕ → List ℕ → ℕ → ℕ
+-- The distance of two trees over y: how many splits are in exactly one of the
+-- two sets.
+unfoldable pub distBy : Choice → ℕ → List ℕ → List ℕ → ℕ → ℕ
 distBy c n t u y =
     let a = splitsBy c n t y in
     let b = splitsBy c n u y in
     lacks a b + lacks b a
 
--- The distance of two trees over y.
-unfoldable pub dist : ℕ → List ℕ → List ℕ → ℕ → ℕ
+abbrev pub dist : ℕ → List ℕ → List ℕ → ℕ → ℕ
 dist = distBy flips
 
 -- The smallest number on the first tree's list that the second lacks, or 0.
@@ -83,9 +82,12 @@ unfoldable pub missing : ℕ → List ℕ → List ℕ → ℕ → ℕ
 missing n t u y = firstLack (splits n t y) (splits n u y)
 
 -- The distance over each partition on a list.
-unfoldable pub distances : ℕ → List ℕ → List ℕ → List ℕ → List ℕ
-distances n t u [] = []
-distances n t u (y ∷ ys) = dist n t u y ∷ distances n t u ys
+unfoldable pub distancesBy : Choice → ℕ → List ℕ → List ℕ → List ℕ → List ℕ
+distancesBy c n t u [] = []
+distancesBy c n t u (y ∷ ys) = distBy c n t u y ∷ distancesBy c n t u ys
+
+abbrev pub distances : ℕ → List ℕ → List ℕ → List ℕ → List ℕ
+distances = distancesBy flips
 
 -- Of how many partitions on a list the induced splits are the same in both
 -- trees.
