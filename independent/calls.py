@@ -454,7 +454,7 @@ def other_state(pick, call):
                              pick.randrange(count + 1)] + HUGE)
     else:
         moves = pick.choice([0, 0, 1, 9, 99, 65534, 65535, 65535, 65536, 65537] + HUGE)
-    call.state = (at, taxa, parts, moves)
+    call.state = tuple(min(number, LARGEST) for number in (at, taxa, parts, moves))
 
 
 def other_memory(pick, call):

@@ -308,7 +308,8 @@ distance-any-side = dist-lowest
 
 pub lines-any-side : (n : ℕ) (t u ys : List ℕ)
     → ((y : ℕ) → mem y ys ≡ true → y < 2 ^ n) → (m : ℕ)
-    → moveLines m (distances n t u ys) ≡ moveLines m (distancesBy holdsLowest n t u ys)
+    → moveLines m (distances n t u ys)
+    ≡ moveLines m (distancesBy holdsLowest n t u ys)
 lines-any-side n t u ys h m = ap (moveLines m) (distances-lowest n t u ys h)
 
 -- ==== Demand 3: more species never lower a distance.

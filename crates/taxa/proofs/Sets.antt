@@ -13,7 +13,7 @@ use lib.Count.{trailingZeros, under}
 use lib.Dec.{eqb, ltb, leb·zero, leb·suc-zero, leb·suc-suc, eqb·zero-suc, eqb·suc-zero, eqb·suc-suc}
 use lib.Pow.{pow-pos, ones-split}
 use borrow.Author.Tests.{ltb-true, ltb-false, eqb-true, ne-eqb, not-false}
-use Rattle.taxa.proofs.Bools.{either, and-left, and-imp, _⊕_}
+use Rattle.taxa.proofs.Bools.{either, and-left, and-right, and-imp, _⊕_}
 use Rattle.taxa.specs.Sets.{bit, has, add, less, some, lowest, Sub}
 
 -- a digit is 0 or 1
@@ -194,6 +194,15 @@ some-zero = refl
 pub sub-and : (a b : ℕ) → Sub a b → bitAnd a b ≡ a
 unfolding Sub
 sub-and a b h = ext (bitAnd a b) a (λ i. has-and a b i ∙ and-imp (has a i) (has b i) (h i))
+
+-- both sides of y that s makes lie within y
+pub sub-inside : (y s : ℕ) → Sub (bitAnd s y) y
+unfolding Sub
+sub-inside y s i q = and-right (has s i) (has y i) (sym (has-and s y i) ∙ q)
+
+pub sub-less : (y s : ℕ) → Sub (less y s) y
+unfolding Sub
+sub-less y s i q = and-left (has y i) (not (has s i)) (sym (has-less y s i) ∙ q)
 
 pub sub-lt : (n a b : ℕ) → Sub a b → b < 2 ^ n → a < 2 ^ n
 sub-lt n a b h l = native.Mathlib.Nat.lt-of-le-of-lt (subst (λ (x : ℕ). x ≤ b) (sub-and a b h) (lib.Bits.and-le-r a b)) l

@@ -145,10 +145,12 @@ size-less (suc k) a b i h l p q = go (λ l′. size-less k a b i (λ j m. h j (o
     go ih (inr w) = omega (arith, here, ih (lib.Arith.lt-of-le-ne (omega arith) (eqb-false i k w)))
 
 -- beyond the members nothing is counted
-pub size-wide : (n w s : ℕ) → n ≤ w → ((i : ℕ) → has s i ≡ true → i < n) → size w s ≡ size n s
+pub size-wide : (n w s : ℕ) → n ≤ w → ((i : ℕ) → has s i ≡ true → i < n)
+    → size w s ≡ size n s
 unfolding size
 size-wide n w s h below =
-    le-ind (λ (k : ℕ). size k s ≡ size n s) refl (λ m l ih. omega (arith, ih, ap tally (none m l (either (has s m))))) w h
+    le-ind (λ (k : ℕ). size k s ≡ size n s) refl
+    (λ m l ih. omega (arith, ih, ap tally (none m l (either (has s m))))) w h
   where
     none : (m : ℕ) → n ≤ m → (has s m ≡ true) ⊎ (has s m ≡ false) → has s m ≡ false
     none m l (inl p) = absurd (omega (arith, below m p))

@@ -13,7 +13,7 @@ use lib.Bits.{bitAnd, and-zero-l}
 use borrow.Author.Tests.{eqb-true, ne-eqb, eq-eqb, not-true}
 use Rattle.taxa.specs.Sets.{has, less, some, lowest, Sub}
 use Rattle.taxa.proofs.Bools.{either, and-left, and-right, and-both, or-cases, or-left, or-right, _⊕_, xor-twice, xor-same, xor-move, xor-not}
-use Rattle.taxa.proofs.Sets.{has-and, has-less, has-pow, has-none, has-below, sub-lt, some-has, some-zero, some-false, some-lowest}
+use Rattle.taxa.proofs.Sets.{has-and, has-less, has-pow, has-none, has-below, sub-inside, sub-less, sub-lt, some-has, some-zero, some-false, some-lowest}
 use Rattle.taxa.proofs.Sizes.{sub-refl}
 use Rattle.tree.specs.Tree.{lo, rows, part, Valid}
 use Rattle.tree.specs.Lists.{mem}
@@ -61,16 +61,14 @@ split-none n y bound = no-split n y 0 bound (ap (λ (b : Bool). b && some (less 
 
 -- a member of y that is not in s
 pub missing : (n y s : ℕ) → y < 2 ^ n → some (less y s) ≡ true → (i : ℕ) × (has y i ≡ true) × (has s i ≡ false)
-unfolding Sub
 missing n y s b h =
     let l = lowest n (less y s) in
-    let u : (has y l && not (has s l)) ≡ true = sym (has-less y s l) ∙ some-lowest n (less y s) (sub-lt n (less y s) y
-    (λ i q. and-left (has y i) (not (has s i)) (sym (has-less y s i) ∙ q)) b) h in
+    let u : (has y l && not (has s l)) ≡ true = sym (has-less y s l) ∙ some-lowest n (less y s) (sub-lt n (less y s) y (sub-less y s) b) h in
     (l, and-left (has y l) (not (has s l)) u, not-true (has s l) (and-right (has y l) (not (has s l)) u))
 
 -- a set that is kept over y has members of y on each side
 pub both-sides : (n y s : ℕ) → y < 2 ^ n → some (split n y s) ≡ true → (p : Bool) → (i : ℕ) × (has y i ≡ true) × (has s i ≡ p)
-unfolding meets Sub
+unfolding meets
 both-sides n y s b h p = go p
   where
     m : (some (bitAnd s y) && some (less y s)) ≡ true
@@ -79,8 +77,7 @@ both-sides n y s b h p = go p
     go : (p : Bool) → (i : ℕ) × (has y i ≡ true) × (has s i ≡ p)
     go true =
         let l = lowest n (bitAnd s y) in
-        let u : (has s l && has y l) ≡ true = sym (has-and s y l) ∙ some-lowest n (bitAnd s y) (sub-lt n (bitAnd s y) y
-        (λ i q. and-right (has s i) (has y i) (sym (has-and s y i) ∙ q)) b) (and-left (some (bitAnd s y)) (some (less y s)) m) in
+        let u : (has s l && has y l) ≡ true = sym (has-and s y l) ∙ some-lowest n (bitAnd s y) (sub-lt n (bitAnd s y) y (sub-inside y s) b) (and-left (some (bitAnd s y)) (some (less y s)) m) in
         (l, and-right (has s l) (has y l) u, and-left (has s l) (has y l) u)
     go false = missing n y s b (and-right (some (bitAnd s y)) (some (less y s)) m)
 
