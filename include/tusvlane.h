@@ -133,10 +133,10 @@ uint32_t tusvlane_check_tree(size_t n, const uint8_t *table,
                              size_t table_bytes);
 
 /* Writes the splits that the tree induces over the partition, ascending, to
- * the start of `out`. A split is written as the bits of its smaller side, both
- * sides being cut down to the partition; with equal sides, as those of the one
- * that does not hold the lowest taxon of the partition. `value` is how many
- * there are: 2k-3 for k taxa, k being 3 or more; 1 for 2 taxa; else 0.
+ * the start of `out`. A split is written as the bits of one of its sides, both
+ * being cut down to the partition: the smaller; with equal sides, the one that
+ * does not hold the lowest taxon of the partition. `value` is how many there
+ * are: 2k-3 for k taxa, k being 3 or more; 1 for 2 taxa; else 0.
  * Refusals 1 to 6 and 11. */
 tusvlane_answer tusvlane_induced_splits(size_t n, const uint8_t *table,
                                         size_t table_bytes,

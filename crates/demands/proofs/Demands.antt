@@ -300,17 +300,18 @@ steps-list = run-is-listing
 pub plain-lines : (j : List ℕ) → Plain (job.listing j)
 plain-lines = listing-plain
 
--- By which side a split is written changes no distance and no line of a
--- listing: they are those that the sides without the lowest taxon give.
-pub distance-any-side : (n : ℕ) (t u : List ℕ) (y : ℕ) → y < 2 ^ n
+-- The distance is what it was when a split was written by the side without the
+-- lowest taxon.
+pub distance-as-before : (n : ℕ) (t u : List ℕ) (y : ℕ) → y < 2 ^ n
     → dist n t u y ≡ distBy holdsLowest n t u y
-distance-any-side = dist-lowest
+distance-as-before = dist-lowest
 
-pub lines-any-side : (n : ℕ) (t u ys : List ℕ)
+-- So are the lines of a move, and with them each verdict and the saved count.
+pub lines-as-before : (n : ℕ) (t u ys : List ℕ)
     → ((y : ℕ) → mem y ys ≡ true → y < 2 ^ n) → (m : ℕ)
     → moveLines m (distances n t u ys)
     ≡ moveLines m (distancesBy holdsLowest n t u ys)
-lines-any-side n t u ys h m = ap (moveLines m) (distances-lowest n t u ys h)
+lines-as-before n t u ys h m = ap (moveLines m) (distances-lowest n t u ys h)
 
 -- ==== Demand 3: more species never lower a distance.
 

@@ -5,7 +5,7 @@ use lib.Count.{trailingZeros}
 use Rattle.taxa.specs.Sets.{has, add, less, some, size, lowest}
 use Rattle.tree.specs.Tree.{far, others, every, count, round, rounds, part}
 use Rattle.tree.specs.Lists.{mem, insert, lacks}
-use Rattle.tree.specs.Splits.{side, meets, splitBy, splitsTo, splitsBy, holdsLowest, flips, distBy, dist}
+use Rattle.tree.specs.Splits.{side, meets, splitBy, splitsTo, splitsBy, holdsLowest, flips, distBy}
 use Rattle.tree.specs.Refusals.{gives, judged, treeSaid, Accepted}
 use Rattle.tree.proofs.RefusalLaws.{accepted-iff}
 use Rattle.moves.specs.Moves.{put, nni, nniFits, endWith, moveEnd, spr, stayOr, tbr, target, moved, kindRight, rowsRight, fits, anyMoves}

@@ -36,7 +36,7 @@ module _ (n : ℕ) (t : List ℕ) (y : ℕ) (ss : List ℕ) (bound : y < 2 ^ n) 
   unfolding splitsBy
   splits-all = splits-to (rows n) (le-refl (rows n))
 
--- an empty partition has no split
+-- over an empty partition the list is empty
 pub splits-none : (n : ℕ) (ss : List ℕ) (k : ℕ) → splitsOf n 0 ss k ≡ []
 unfolding splitsOf added
 splits-none n ss zero = refl

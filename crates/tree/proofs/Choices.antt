@@ -18,21 +18,22 @@ use Rattle.tree.specs.Lists.{insert, mem}
 use Rattle.tree.specs.Splits.{side, meets, Choice, splitBy, splitsTo, splitsBy}
 use Rattle.tree.proofs.Lists.{mem-insert, Asc, asc-insert}
 
--- sets that agree on y, or disagree on all of it, by d
+-- s and s′ agree on y where d is false, and disagree on all of it where d is
+-- true
 abbrev pub Like : ℕ → Bool → ℕ → ℕ → Type 0
 Like y d s s′ = (i : ℕ) → has y i ≡ true → has s i ≡ (d ⊕ has s′ i)
 
--- What the laws ask of a choice. For one pair of sides it has one and the same
--- side written, whichever of them the set is; and where a side is empty, the
--- empty one.
+-- What the laws ask of a choice.
 pub record Fair (c : Choice) : Type 0 where
+  -- Two sets that make the same two sides have the same one written.
   pub even : (n y s s′ i : ℕ) (d : Bool) → y < 2 ^ n → has y i ≡ true
       → Like y d s s′ → c n y s ≡ (d ⊕ c n y s′)
+  -- Where one side is empty, the empty one is written, so the number is 0.
   pub kept : (n y s : ℕ) → y < 2 ^ n → some (splitBy c n y s) ≡ true
       → meets y s ≡ true
 
 -- ---- a split's members
-pub has-side : (b : Bool) (y s i : ℕ)
+has-side : (b : Bool) (y s i : ℕ)
     → has (pick b (less y s) (bitAnd s y)) i ≡ (has y i && (b ⊕ has s i))
 has-side true y s i = has-less y s i
 has-side false y s i = has-and s y i ∙ and-comm (has s i) (has y i)

@@ -19,6 +19,7 @@ use Rattle.tree.specs.Tree.{lo, rows, part, Valid}
 use Rattle.tree.specs.Lists.{mem}
 use Rattle.tree.specs.Splits.{side, meets, split, splits}
 use Rattle.tree.proofs.Colourings.{row-parts, valid-table, never-cross}
+use Rattle.tree.proofs.Choices.{Like}
 use Rattle.tree.proofs.SplitLaws.{num, side-has, num-of, split-eq, split-same, split-split, no-split, some-meets, meets-some, kept-in, kept-out}
 use Rattle.tree.proofs.RowCounts.{leaf-row}
 use Rattle.tree.proofs.Forks.{leaf-parts}
@@ -54,7 +55,7 @@ opposite p q a b h l = xor-move a b (p ⊕ not q) (go (eq-or a p))
     go (inr e) = xor-not a b p (not q) e (other b (not q) (l e))
 
 -- ---- splits over any set
--- nothing has no split
+-- the empty set makes no split
 split-none : (n y : ℕ) → y < 2 ^ n → split n y 0 ≡ 0
 unfolding meets
 split-none n y bound = no-split n y 0 bound (ap (λ (b : Bool). b && some (less y 0)) (ap some (and-zero-l y) ∙ some-zero))
@@ -165,7 +166,7 @@ module _ (n : ℕ) (t : List ℕ) (Y Y′ x : ℕ) (G : Grown n t Y Y′ x) wher
       go (inl p) = kept-in n t Y (G .bound) (split n Y z) (w .0) (w .1) p (ap (split n Y) (w .3) ∙ cut (side n t (w .0)))
       go (inr p) = absurd (at (xor-or (has z x) (c .0)))
         where
-          c : (b : Bool) × ((i : ℕ) → has Y i ≡ true → has z i ≡ (b ⊕ has 0 i))
+          c : (b : Bool) × Like Y b z 0
           c = split-same n Y z 0 (some-false (split n Y z) p ∙ sym (split-none n Y (G .bound)))
 
           at : (has z x ≡ (c .0 ⊕ false)) ⊎ (has z x ≡ (c .0 ⊕ true)) → ⊥

@@ -1,6 +1,7 @@
 -- Demand 3: the distance over a set of taxa is no more than over a larger set,
--- for any two tables. Nothing about trees is used, and the sides by which the
--- splits are written may differ; so over one set they do not matter.
+-- for any two tables. Nothing about trees is used. The splits over the two sets
+-- may be written by two choices of side. With one set for both, this says that
+-- the choice does not change the distance.
 -- A split over the smaller set that the one table has and the other lacks
 -- comes from one over the larger set, by the same row; the other table
 -- lacks that one too, or cutting it down would give the first. Different ones
@@ -81,7 +82,7 @@ module _
     unfolding distBy
     by-mono t u = add-le-add (lacks-mono t u) (lacks-mono u t)
 
--- ---- the distance is the same by every choice of side
+-- ---- the distance is the same by every fair choice of side
 module _
     (c c′ : Choice) (fair : Fair c) (fair′ : Fair c′)
     (n : ℕ) (t u : List ℕ)

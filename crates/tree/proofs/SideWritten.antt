@@ -1,5 +1,6 @@
--- The side that is written is a fair choice, and so is the one without the
--- lowest taxon: all that depends on which side that is. Assumes nothing.
+-- Which side is written, case by case; that this is a fair choice; and that the
+-- side without the lowest taxon, written before request #102, is one too.
+-- Nothing else in tree looks inside `flips`. Assumes nothing.
 use mathlib.Core.Path.{_≡_, refl, sym, ap, ap₂, _∙_}
 use mathlib.Core.Logic.{_⊎_, inl, inr}
 use mathlib.Core.Bool.{Bool, true, false, not, _&&_, true≢false}
@@ -53,7 +54,7 @@ lowest-kept n y s bound h = go (has s (lowest n y)) refl h
 pub lowest-fair : Fair holdsLowest
 lowest-fair = record { even = lowest-even; kept = lowest-kept }
 
--- ---- the smaller side, and with equal sides that one
+-- ---- the smaller side; with equal sides, the one without the lowest taxon
 module _ (n y s : ℕ) where
   other-smaller : size n (less y s) < size n (bitAnd s y) → flips n y s ≡ true
   unfolding flips

@@ -1,5 +1,5 @@
--- Laws of a row's split over y, with the side that is written: those of every
--- fair choice, for the one that was made. Assumes nothing.
+-- Laws of a row's split over y as it is written. Most hold for every fair
+-- choice of side and are taken here for the one that is made. Assumes nothing.
 use mathlib.Core.Path.{_≡_, sym, ap, ap₂, _∙_}
 use mathlib.Core.Logic.{_⊎_, inl, inr}
 use mathlib.Core.Bool.{Bool, true, false, _&&_, true≢false}
@@ -60,7 +60,7 @@ no-split n y s bound h = go (either (some (split n y s)))
     go (inl e) = absurd (true≢false (sym (some-meets n y s bound e) ∙ h))
     go (inr e) = some-false (split n y s) e
 
--- an empty partition has no split
+-- over an empty partition no set makes a split
 pub nothing-split : (n s : ℕ) → split n 0 s ≡ 0
 unfolding meets
 nothing-split n s =

@@ -1,5 +1,7 @@
--- Splits, induced trees and distance, as document 01 has them. A partition is
--- a set y of taxa.
+-- Splits, induced trees and distance, as document 01 has them; the side by
+-- which a split is written is that of request #102. A partition is a set y of
+-- taxa. The definitions that end in By take the choice of side; the names
+-- without By have the one that is made.
 use Prim.Native.Nat.{ℕ, zero, suc, _+_, _*_, _-_, _^_, _%_, _<_}
 use mathlib.Core.Bool.{Bool, _&&_}
 use mathlib.Core.List.{List, [], _∷_}
@@ -18,12 +20,12 @@ side n t e = part n t e (lo t e) % 2 ^ n
 unfoldable pub meets : ℕ → ℕ → Bool
 meets y s = some (bitAnd s y) && some (less y s)
 
--- A choice of side: whether of the two sides of y that a set makes the one is
--- written that is not the set's own.
+-- A choice of side. A set s cuts y into two sides: the taxa of y in s, and the
+-- other taxa of y. Given n, y and s, it is true where the others are written.
 abbrev pub Choice : Type 0
 Choice = ℕ → ℕ → ℕ → Bool
 
--- The number of a split over y, by a choice of side.
+-- The number of a split over y: the bits of the side that is written.
 unfoldable pub splitBy : Choice → ℕ → ℕ → ℕ → ℕ
 splitBy c n y s = pick (c n y s) (less y s) (bitAnd s y)
 
@@ -47,33 +49,35 @@ members (suc zero) = 0
 members (suc (suc zero)) = 1
 members (suc (suc (suc m))) = 2 * suc (suc (suc m)) - 3
 
--- The set holds the lowest taxon of y.
+-- The choice of document 01: the others are written where s holds the lowest
+-- taxon of y. So it is always the side that does not hold it.
 unfoldable pub holdsLowest : Choice
 holdsLowest n y s = has s (lowest n y)
 
--- The side that is written: the smaller; with equal sides, the one that does
--- not hold the lowest taxon of y.
+-- The choice that is made, by request #102: the smaller side; with equal sides,
+-- the one that does not hold the lowest taxon of y.
 unfoldable pub flips : Choice
 flips n y s =
     let inside = size n (bitAnd s y) in
     let outside = size n (less y s) in
     pick (eqb inside outside) (holdsLowest n y s) (ltb outside inside)
 
--- The number of a split over y, and the list of them, ascending.
+-- A split over y, written as a number.
 abbrev pub split : ℕ → ℕ → ℕ → ℕ
 split = splitBy flips
 
+-- The list of induced splits: these numbers, ascending.
 abbrev pub splits : ℕ → List ℕ → ℕ → List ℕ
 splits = splitsBy flips
 
--- The distance of two trees over y: how many splits are in exactly one of the
--- two sets.
+-- How many splits are in exactly one of the sets of two trees.
 unfoldable pub distBy : Choice → ℕ → List ℕ → List ℕ → ℕ → ℕ
 distBy c n t u y =
     let a = splitsBy c n t y in
     let b = splitsBy c n u y in
     lacks a b + lacks b a
 
+-- The distance of two trees over y.
 abbrev pub dist : ℕ → List ℕ → List ℕ → ℕ → ℕ
 dist = distBy flips
 
@@ -81,11 +85,12 @@ dist = distBy flips
 unfoldable pub missing : ℕ → List ℕ → List ℕ → ℕ → ℕ
 missing n t u y = firstLack (splits n t y) (splits n u y)
 
--- The distance over each partition on a list.
+-- The same over each partition on a list.
 unfoldable pub distancesBy : Choice → ℕ → List ℕ → List ℕ → List ℕ → List ℕ
 distancesBy c n t u [] = []
 distancesBy c n t u (y ∷ ys) = distBy c n t u y ∷ distancesBy c n t u ys
 
+-- The distance over each partition on a list.
 abbrev pub distances : ℕ → List ℕ → List ℕ → List ℕ → List ℕ
 distances = distancesBy flips
 

@@ -1,5 +1,5 @@
-// Cases of document 01 up to the moves, run: a line for each, the number that
-// matters first.
+// Cases of document 01 up to the moves, and of request #102, run: a line for
+// each, the number that matters first.
 use prints::line;
 use prints::numbers;
 use prints::put;
@@ -151,7 +151,8 @@ fn lists_of_s() {
     list(2, &S, 64, &mut [MARK; 1], b"two taxa and bit 6");
 }
 
-// Lists with equal halves, each written by the side without the lowest taxon.
+// Lists that hold a split of equal halves; it is written by the side without
+// the lowest taxon.
 fn halves() {
     list(6, &S, 60, &mut [MARK; 5], b"S over 2, 3, 4, 5");
     list(
@@ -191,11 +192,11 @@ fn three_and_forty() {
         &t,
         &u,
         8796093022207,
-        b"2 and 3 exchanged, over 0 to 42",
+        b"that tree and it with taxa 2 and 3 exchanged",
     );
 }
 
-// Compares tree S with itself and with another tree, then what a comparison
+// Compares tree S with itself and with two other trees, then what a comparison
 // refuses.
 fn comparisons() {
     compare(6, &S, &S_AGAIN, 63, b"one tree, renumbered");
