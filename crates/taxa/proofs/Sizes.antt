@@ -1,16 +1,19 @@
 -- How many members a set has below k. Assumes nothing.
 use mathlib.Core.Path.{_≡_, refl, sym, ap, ap₂, _∙_}
 use mathlib.Core.Logic.{_⊎_, inl, inr}
-use mathlib.Core.Bool.{Bool, true, false, _||_, false≢true, or-true, or-false}
+use mathlib.Core.Bool.{Bool, true, false, not, _&&_, _||_}
+use mathlib.Core.Bool.{false≢true, or-true, or-false}
 use Prim.Native.Nat.{ℕ, zero, suc, _+_, _^_, _≤_, _<_, zero-le}
 use native.Mathlib.Nat.{le-refl}
 use native.Mathlib.Decide.{le-ind}
 use native.Mathlib.Omega.{arith}
+use lib.Bits.{bitAnd}
 use lib.Dec.{eqb}
 use borrow.Author.Tests.{eqb-true, eqb-false, ne-eqb, eq-eqb}
-use Rattle.taxa.specs.Sets.{has, add, tally, size, Sub}
+use Rattle.taxa.specs.Sets.{has, add, less, tally, size, Sub}
 use Rattle.taxa.proofs.Bools.{either, bool-eq}
-use Rattle.taxa.proofs.Sets.{has-add, has-none, ext}
+use Rattle.taxa.proofs.Sets.{has-and, has-add, has-less, has-none}
+use Rattle.taxa.proofs.Sets.{has-pow, has-below, ext, ext-below, sub-lt}
 
 pub tally-le : (p q : Bool) → (p ≡ true → q ≡ true) → tally p ≤ tally q
 tally-le true true h = le-refl 1
@@ -155,3 +158,33 @@ size-wide n w s h below =
     none : (m : ℕ) → n ≤ m → (has s m ≡ true) ⊎ (has s m ≡ false) → has s m ≡ false
     none m l (inl p) = absurd (omega (arith, below m p))
     none m l (inr p) = p
+
+-- the two sides of a cut make up the whole
+pub size-cut : (k y s : ℕ) → size k (bitAnd s y) + size k (less y s) ≡ size k y
+unfolding size
+size-cut zero y s = refl
+size-cut (suc k) y s =
+    rw (has-and s y k, has-less y s k)
+    (omega (arith, size-cut k y s, cut (has y k) (has s k)))
+  where
+    cut : (p q : Bool) → tally (q && p) + tally (p && not q) ≡ tally p
+    cut true true = refl
+    cut true false = refl
+    cut false true = refl
+    cut false false = refl
+
+-- a set with one member at most is that member alone
+pub size-one : (k s i : ℕ) → s < 2 ^ k → has s i ≡ true → size k s ≤ 1
+    → s ≡ 2 ^ i
+unfolding Sub
+size-one k s i bound p one =
+    let low = sub-lt k (2 ^ i) s sub bound in
+    let some = size-pos k (2 ^ i) i (has-below k s i bound p) self in
+    sym (ext-below k (2 ^ i) s low bound
+    (size-same k (2 ^ i) s sub (omega (arith, one, some))))
+  where
+    self : has (2 ^ i) i ≡ true
+    self = has-pow i i ∙ eq-eqb i i refl
+
+    sub : (j : ℕ) → has (2 ^ i) j ≡ true → has s j ≡ true
+    sub j h = ap (has s) (sym (eqb-true i j (sym (has-pow i j) ∙ h))) ∙ p

@@ -89,6 +89,18 @@ kept-by n y s i j yi yj si sj = meets-some n y s (and-both (some (bitAnd s y)) (
     (some-has (bitAnd s y) i (has-and s y i ∙ ap₂ _&&_ si yi))
     (some-has (less y s) j (has-less y s j ∙ ap₂ (λ (p q : Bool). p && not q) yj sj)))
 
+-- ---- a taxon's own split: x against all others
+-- where it is kept, it is on the list of every tree, by the row of the taxon
+pub leaf-in : (n : ℕ) (t : List ℕ) (y x : ℕ) → Valid n t → y < 2 ^ n → x < n
+    → some (split n y (2 ^ x)) ≡ true
+    → mem (split n y (2 ^ x)) (splits n t y) ≡ true
+leaf-in n t y x valid bound lt kept =
+    let w = leaf-row n t x valid lt in
+    let own = leaf-parts n t (w .0) x valid lt (w .1) (w .2) in
+    kept-in n t y bound (split n y (2 ^ x)) (w .0) (w .1) kept
+    (sym (num-of n t (valid .big) (valid-table n t valid) y (w .0) (2 ^ x)
+    bound (w .1) own))
+
 -- ---- Y and the taxon x, which is not in Y, make Y′
 pub record Grown (n : ℕ) (t : List ℕ) (Y Y′ x : ℕ) : Type 0 where
   pub valid : Valid n t
@@ -147,10 +159,8 @@ module _ (n : ℕ) (t : List ℕ) (Y Y′ x : ℕ) (G : Grown n t Y Y′ x) wher
   -- it is kept where Y has a member, and nothing of it is left over Y
   pub own-in : (a : ℕ) → has Y a ≡ true → mem own (splits n t Y′) ≡ true
   own-in a p =
-      let w = leaf-row n t x (G .valid) (G .lt) in
-      kept-in n t Y′ (G .bound′) own (w .0) (w .1)
+      leaf-in n t Y′ x (G .valid) (G .bound′) (G .lt)
       (kept-by n Y′ (2 ^ x) x a in-new (in-old a p) (has-pow x x ∙ eq-eqb x x refl) (has-pow x a ∙ not-new a p))
-      (sym (num-of n t (G .valid .big) (valid-table n t (G .valid)) Y′ (w .0) (2 ^ x) (G .bound′) (w .1) (leaf-parts n t (w .0) x (G .valid) (G .lt) (w .1) (w .2))))
 
   pub own-cut : split n Y own ≡ 0
   own-cut = cut (2 ^ x) ∙ split-eq n Y (2 ^ x) 0 (G .bound) false (λ i p. has-pow x i ∙ not-new i p ∙ sym (has-none i)) ∙ split-none n Y (G .bound)

@@ -15,3 +15,4 @@ pub mod ListCounts
 pub mod Growth
 pub mod DoubleLift
 pub mod Members
+pub mod FewTaxa
