@@ -1,6 +1,6 @@
 -- The three demands of the request, over the definitions, each theorem with a
 -- plain sentence above it. Assumes nothing.
-use mathlib.Core.Path.{_≡_, ap}
+use mathlib.Core.Path.{_≡_, refl, ap}
 use mathlib.Core.Logic.{_↔_}
 use mathlib.Core.Bool.{true}
 use mathlib.Core.List.{List, _++_}
@@ -40,6 +40,7 @@ use Rattle.judge.proofs.SaidLaws.{applies-one, judges-one, verdict-one}
 use Rattle.text.specs.Lines.{savedLine}
 use Rattle.text.specs.Plain.{Plain}
 use Rattle.listing.specs.Listing as listing
+use Rattle.listing.specs.Saved.{savedOf}
 use Rattle.listing.specs.Listing.{verdictLines, moveLines, linesSaid}
 use Rattle.listing.specs.Listing.{placeAfter, Lists}
 use Rattle.listing.specs.declared.Lines.{Lines}
@@ -285,10 +286,11 @@ count-same = zeros-unchanged
 
 -- The `saved` number of a move is counted from the distances on the lines
 -- above it.
-pub saved-counted : (m : ℕ) (ds : List ℕ)
-    → verdictLines m 1 ds ++ savedLine m (zeros ds)
-    (length ds) ≡ moveLines m ds
-saved-counted = lines-are
+pub saved-counted : (n m : ℕ) (ys ds : List ℕ)
+    → verdictLines m 1 ds
+    ++ savedLine m (savedOf n ys ds) (zeros ds) (length ds)
+    ≡ moveLines n m ys ds
+saved-counted n m ys ds = lines-are m ds (savedOf n ys ds) (zeros ds) refl
 
 -- The steps in order, with the program's memory, write the listing of the
 -- whole job as defined.
@@ -309,9 +311,10 @@ distance-as-before = dist-lowest
 -- So are the lines of a move, and with them each verdict and the saved count.
 pub lines-as-before : (n : ℕ) (t u ys : List ℕ)
     → ((y : ℕ) → mem y ys ≡ true → y < 2 ^ n) → (m : ℕ)
-    → moveLines m (distances n t u ys)
-    ≡ moveLines m (distancesBy holdsLowest n t u ys)
-lines-as-before n t u ys h m = ap (moveLines m) (distances-lowest n t u ys h)
+    → moveLines n m ys (distances n t u ys)
+    ≡ moveLines n m ys (distancesBy holdsLowest n t u ys)
+lines-as-before n t u ys h m =
+    ap (moveLines n m ys) (distances-lowest n t u ys h)
 
 -- ==== Demand 3: more species never lower a distance.
 

@@ -21,11 +21,13 @@ use Rattle.tree.proofs.RefusalLaws.{Pass, pass-accepted}
 use Rattle.moves.specs.Moves.{Move, moved, moveChecks}
 use Rattle.moves.proofs.Moved.{moved-accepted}
 use Rattle.rules.specs.Each.{zeros}
-use Rattle.rules.proofs.Judging.{distances-length, zeros-le}
+use Rattle.rules.proofs.Judging.{distances-length}
 use Rattle.text.specs.Lines.{verdictLine}
 use Rattle.text.proofs.Widths.{verdict-few, saved-few}
 use Rattle.fields.specs.Fields.{complete}
+use Rattle.listing.specs.Saved.{savedOf}
 use Rattle.listing.specs.Listing.{verdictLines, moveLines}
+use Rattle.listing.proofs.SavedLaws.{saved-le}
 use Rattle.listing.proofs.LineLaws.{lines-length}
 use Rattle.job.specs.Job.{Known, nothing, next, withTaxa, withTable, withPartition, withMove, field, longest}
 use Rattle.job.specs.Runs.{enough}
@@ -142,15 +144,16 @@ verdicts-few n t u m p (y ∷ ys) a b hm hp h =
 
 -- The lines of a move have few bytes.
 move-lines-few : (n : ℕ) (t u ys : List ℕ) (k : ℕ) → Accepted n t → Accepted n u → k < 2 ^ 64 → length ys ≤ mostPartitions → each (λ y. ltb y (2 ^ n)) ys ≡ true
-    → length (moveLines k (distances n t u ys)) ≤ enough
+    → length (moveLines n k ys (distances n t u ys)) ≤ enough
 move-lines-few n t u ys k a b hk few h =
     let ds = distances n t u ys in
+    let s = savedOf n ys ds in
     omega (
       arith,
-      lines-length k ds,
+      lines-length k ds s (zeros ds) refl,
       verdicts-few n t u k 1 ys a b hk (omega (arith, few)) h,
       distances-length n t u ys,
-      saved-few k (zeros ds) (length ds) hk (omega (arith, few, zeros-le ds, distances-length n t u ys)) (omega (arith, few, distances-length n t u ys)),
+      saved-few k s (zeros ds) (length ds) hk (omega (arith, few, saved-le n ys ds, distances-length n t u ys)),
     )
 
 -- So a step's lines fit memory for one move's.

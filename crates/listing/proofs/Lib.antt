@@ -1,3 +1,4 @@
+pub mod SavedLaws
 pub mod LineLaws
 pub mod ListsLaws
 pub mod PlainLines

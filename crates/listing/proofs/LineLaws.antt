@@ -9,9 +9,11 @@ use lib.ListN.{length, getD, take, drop, length-append, take-append-drop, length
 use lib.Seq.{take-suc, length-take-le, take-length, take-append-seam}
 use Rattle.text.specs.Lines.{verdictLine, savedLine, putFirst, placed}
 use Rattle.text.proofs.Placing.{placed-start, placed-length, placed-placed, back}
-use Rattle.judge.specs.Promises.{Told}
+use Rattle.tree.specs.Splits.{distances}
 use Rattle.rules.specs.Each.{zeros}
-use Rattle.listing.specs.Listing.{verdictLines, moveLines}
+use Rattle.rules.proofs.Judging.{distances-length}
+use Rattle.judge.specs.Promises.{Told}
+use Rattle.listing.specs.Listing.{verdictLines, linesWith}
 
 verdicts-append : (m p : ℕ) (xs ys : List ℕ) → verdictLines m p (xs ++ ys) ≡ verdictLines m p xs ++ verdictLines m (p + length xs) ys
 unfolding verdictLines
@@ -53,12 +55,19 @@ pub verdicts-none : (m : ℕ) (ds : List ℕ) → verdictLines m 1 (take 0 ds) �
 unfolding verdictLines
 verdicts-none m ds = refl
 
-pub lines-are : (m : ℕ) (ds : List ℕ) → verdictLines m 1 ds ++ savedLine m (zeros ds) (length ds) ≡ moveLines m ds
-unfolding moveLines
-lines-are m ds = refl
+-- the verdict lines and the saved line are all lines of a move
+module _ (m : ℕ) (ds : List ℕ) (s same : ℕ) (counted : same ≡ zeros ds) where
+  abbrev last : List ℕ
+  last = savedLine m s same (length ds)
 
-pub lines-length : (m : ℕ) (ds : List ℕ) → length (verdictLines m 1 ds) + length (savedLine m (zeros ds) (length ds)) ≡ length (moveLines m ds)
-lines-length m ds = sym (length-append (verdictLines m 1 ds) (savedLine m (zeros ds) (length ds))) ∙ ap length (lines-are m ds)
+  pub lines-are : verdictLines m 1 ds ++ last ≡ linesWith m ds s
+  unfolding linesWith
+  lines-are = rw counted
+
+  pub lines-length : length (verdictLines m 1 ds) + length last
+      ≡ length (linesWith m ds s)
+  lines-length =
+      sym (length-append (verdictLines m 1 ds) last) ∙ ap length lines-are
 
 -- ---- lines after lines, at the start of a lent output
 pub put-whole : (xs o : List ℕ) → length xs ≤ length o → length (putFirst xs o) ≡ length o
@@ -88,9 +97,58 @@ module _ (o₀ xs o : List ℕ) (e : ℕ) (h : e ≡ length xs) (w : o ≡ putFi
         ∙ placed-start o₀ (xs ++ ds),
   )
 
--- the distances at the start of a list
-pub told-take : (ds out : List ℕ) (r : ℕ) (out′ : List ℕ) (k : ℕ) → k ≡ length ds → Told ds out r out′ → take k out′ ≡ ds
-told-take ds out r out′ k e told = ap (take k) (told .memory) ∙ ap (λ (j : ℕ). take j (ds ++ drop (length ds) out)) e ∙ take-append-seam ds (drop (length ds) out)
+-- ---- the saved line after the verdict lines
+module _
+    (o₀ : List ℕ) (m : ℕ) (ds : List ℕ) (s same : ℕ) (counted : same ≡ zeros ds)
+    (room : length (linesWith m ds s) ≤ length o₀)
+  where
+    abbrev end : List ℕ
+    end = savedLine m s same (length ds)
 
-pub told-within : (ds out : List ℕ) (r : ℕ) (out′ : List ℕ) (k : ℕ) → k ≡ length ds → Told ds out r out′ → k ≤ length out′
-told-within ds out r out′ k e told = omega (arith, e, ap length (told .memory), length-append ds (drop (length ds) out))
+    pub last-after : length (verdictLines m 1 ds) + length end ≤ length o₀
+    last-after = omega (arith, lines-length m ds s same counted, room)
+
+    module _
+        (o : List ℕ) (e : ℕ) (h : e ≡ length (verdictLines m 1 ds))
+        (w : o ≡ putFirst (verdictLines m 1 ds) o₀)
+      where
+        pub last-room : e + length end ≤ length o
+        last-room = put-room o₀ (verdictLines m 1 ds) o e h w end last-after
+
+        pub last-part : length end ≤ length (take (length o - e) (drop e o))
+        last-part = part-room o₀ (verdictLines m 1 ds) o e h w end last-after
+
+        pub last-then : {part : List ℕ} {k : ℕ}
+            → (k ≡ length end) × (part ≡ putFirst end (take (length o - e) (drop e o)))
+            → (e + k ≡ length (linesWith m ds s))
+            × (take e o ++ (part ++ drop (length o - e) (drop e o)) ≡ putFirst (linesWith m ds s) o₀)
+        last-then q =
+            let p = put-then o₀ (verdictLines m 1 ds) o e h w end last-after q in
+            let all = lines-are m ds s same counted in (
+              p .0 ∙ ap length all,
+              p .1 ∙ ap (λ (x : List ℕ). putFirst x o₀) all,
+            )
+
+-- ---- the distances of the partitions ys at the start of a lent list
+module _
+    (n : ℕ) (t u ys : List ℕ) {out : List ℕ} {r : ℕ} {out′ : List ℕ}
+    (told : Told (distances n t u ys) out r out′)
+  where
+    pub found-are : take (length ys) out′ ≡ distances n t u ys
+    found-are =
+        ap₂ take (sym (distances-length n t u ys)) (told .memory)
+        ∙ take-append-seam (distances n t u ys) (drop (length (distances n t u ys)) out)
+
+    pub found-length : length (take (length ys) out′) ≡ length ys
+    found-length = ap length found-are ∙ distances-length n t u ys
+
+    pub found-within : length ys ≤ length out′
+    found-within = omega (
+      arith,
+      ap length (told .memory),
+      distances-length n t u ys,
+      length-append (distances n t u ys) (drop (length (distances n t u ys)) out),
+    )
+
+    pub found-same : r ≡ zeros (take (length ys) out′)
+    found-same = told .count ∙ sym (ap zeros found-are)

@@ -19,7 +19,8 @@ use Rattle.moves.specs.Moves.{Move, moved, moveChecks}
 use Rattle.fits.specs.Bytes.{fitSaid}
 use Rattle.text.specs.Lines.{placed}
 use Rattle.listing.specs.declared.Lines.{Lines}
-use Rattle.listing.specs.Listing.{moveLines, linesOf, linesSaid, linesSays, placeAfter, tableThen, outThen, Puts, Lists}
+use Rattle.listing.specs.Saved.{savedOf}
+use Rattle.listing.specs.Listing.{linesWith, moveLines, linesOf, linesSaid, linesSays, placeAfter, tableThen, outThen, Puts, Lists}
 
 module _ (n : ℕ) (t ys : List ℕ) (m : Move) (k : ℕ) (out : List ℕ) (place : ℕ) where
   abbrev ls : List ℕ
@@ -60,15 +61,21 @@ module _ (n : ℕ) (t ys : List ℕ) (m : Move) (k : ℕ) (out : List ℕ) (plac
         past-10 : said ≡ judged roomy ls
         past-10 = past-6 ∙ judged-pass (moveChecks n t m) roomy ls fit
 
-        -- so what is put for the distances where there is room is listed
-        pub lists-put : {r : Lines} {t′ out′ : List ℕ} (ds : List ℕ) → ds ≡ distances n t (moved n t m) ys → Puts (moveLines k ds) t (moved n t m) out place r t′ out′ → Lists n t ys m k out place r t′ out′
-        lists-put ds e p =
-            let w : judged (roomChecks (place + length (moveLines k ds)) (length out)) (moveLines k ds) ≡ said
-            = ap (λ (l : List ℕ). judged (roomChecks (place + length (moveLines k l)) (length out)) (moveLines k l)) e ∙ sym past-10 in
+        -- so what is put for the distances and the number saved, where there
+        -- is room, is listed
+        pub lists-put : {r : Lines} {t′ out′ : List ℕ} (ds : List ℕ) (s : ℕ)
+            → ds ≡ distances n t (moved n t m) ys → s ≡ savedOf n ys ds
+            → Puts (linesWith k ds s) t (moved n t m) out place r t′ out′
+            → Lists n t ys m k out place r t′ out′
+        lists-put ds s e c p =
+            let lines : linesWith k ds s ≡ ls
+            = ap (linesWith k ds) c ∙ ap (moveLines n k ys) e in
+            let w : judged (roomChecks (place + length (linesWith k ds s)) (length out)) (linesWith k ds s) ≡ said
+            = ap (λ (l : List ℕ). judged (roomChecks (place + length l) (length out)) l) lines ∙ sym past-10 in
             record {
               says = p .says ∙ ap (placeAfter place) w;
-              table = p .table ∙ ap (λ (s : Said (List ℕ)). tableThen s (moved n t m) t) w;
-              memory = p .memory ∙ ap (λ (s : Said (List ℕ)). outThen s place out) w;
+              table = p .table ∙ ap (λ (x : Said (List ℕ)). tableThen x (moved n t m) t) w;
+              memory = p .memory ∙ ap (λ (x : Said (List ℕ)). outThen x place out) w;
             }
 
 -- ---- lines where there is room

@@ -6,13 +6,16 @@ use Rattle.rules.specs.Each.{zeros}
 use Rattle.text.specs.Lines.{verdictLine, savedLine}
 use Rattle.text.specs.Plain.{Plain, none}
 use Rattle.text.proofs.PlainLaws.{verdict-plain, saved-plain, plain-append}
-use Rattle.listing.specs.Listing.{verdictLines, moveLines}
+use Rattle.listing.specs.Listing.{verdictLines, linesWith}
 
 pub verdicts-plain : (m p : ℕ) (ds : List ℕ) → Plain (verdictLines m p ds)
 unfolding verdictLines
 verdicts-plain m p [] = none
 verdicts-plain m p (d ∷ ds) = plain-append (verdictLine m p d) (verdictLines m (p + 1) ds) (verdict-plain m p d) (verdicts-plain m (p + 1) ds)
 
-pub move-plain : (m : ℕ) (ds : List ℕ) → Plain (moveLines m ds)
-unfolding moveLines
-move-plain m ds = plain-append (verdictLines m 1 ds) (savedLine m (zeros ds) (length ds)) (verdicts-plain m 1 ds) (saved-plain m (zeros ds) (length ds))
+pub move-plain : (m : ℕ) (ds : List ℕ) (s : ℕ) → Plain (linesWith m ds s)
+unfolding linesWith
+move-plain m ds s =
+    let last = savedLine m s (zeros ds) (length ds) in
+    plain-append (verdictLines m 1 ds) last
+    (verdicts-plain m 1 ds) (saved-plain m s (zeros ds) (length ds))

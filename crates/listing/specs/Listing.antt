@@ -10,6 +10,7 @@ use Rattle.table.specs.Says.{numberOf}
 use Rattle.moves.specs.Moves.{Move, moved, moveChecks}
 use Rattle.rules.specs.Each.{zeros}
 use Rattle.text.specs.Lines.{verdictLine, savedLine, placed}
+use Rattle.listing.specs.Saved.{savedOf}
 use Rattle.listing.specs.declared.Lines.{Lines}
 use Rattle.listing.specs.declared.Lines.the-variants.{To, Refused}
 
@@ -19,13 +20,20 @@ verdictLines m p [] = []
 verdictLines m p (d ∷ ds) = verdictLine m p d ++ verdictLines m (p + 1) ds
 
 -- One move's lines, under the move number m: those for partition 1, 2, ..,
--- then `m saved s t`, s counted from the distances above.
-unfoldable pub moveLines : ℕ → List ℕ → List ℕ
-moveLines m ds = verdictLines m 1 ds ++ savedLine m (zeros ds) (length ds)
+-- then `m saved s t`, where s is the number saved. The class t is that of the
+-- number of distances above that are 0.
+unfoldable pub linesWith : ℕ → List ℕ → ℕ → List ℕ
+linesWith m ds s =
+    verdictLines m 1 ds ++ savedLine m s (zeros ds) (length ds)
+
+-- The same for the partitions ys of the n taxa: the number saved is counted
+-- from them and the distances above.
+abbrev pub moveLines : ℕ → ℕ → List ℕ → List ℕ → List ℕ
+moveLines n m ys ds = linesWith m ds (savedOf n ys ds)
 
 -- The lines that a call states the number k for.
 abbrev pub linesOf : ℕ → List ℕ → List ℕ → Move → ℕ → List ℕ
-linesOf n t ys m k = moveLines k (distances n t (moved n t m) ys)
+linesOf n t ys m k = moveLines n k ys (distances n t (moved n t m) ys)
 
 -- What the call says: the lines. Refusals 1 to 11; 11 when they do not all fit
 -- or the place is past the end.

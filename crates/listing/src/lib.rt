@@ -4,7 +4,7 @@ ghost use Prim.Native.Nat.{_+_, _*_, _≤_};
 ghost use mathlib.Core.Path.{_≡_};
 ghost use lib.Dec.{leb};
 ghost use lib.ListN.{length};
-ghost use Rattle.taxa.specs.Most.{mostPartitions};
+ghost use Rattle.taxa.specs.Most.{most, mostPartitions};
 ghost use Rattle.taxa.specs.Sets.{pick};
 ghost use Rattle.tree.specs.Refusals.{Accepted, partitionsChecks};
 ghost use Rattle.tree.proofs.RefusalLaws.{Pass};
@@ -15,7 +15,8 @@ ghost use Rattle.rules.specs.Each.{zeros};
 ghost use Rattle.moves.specs.Moves.{moved};
 ghost use Rattle.fits.specs.Bytes.{moveOf};
 ghost use Rattle.judge.specs.Promises.{Fit};
-ghost use Rattle.listing.specs.Listing.{verdictLines, moveLines, Puts, Lists};
+ghost use Rattle.listing.specs.Saved.{countsAsSaved, savedOf};
+ghost use Rattle.listing.specs.Listing.{verdictLines, linesWith, Puts, Lists};
 use fits::Fitted;
 use fits::Move;
 use table::Checked;
@@ -25,6 +26,27 @@ use table::Refusal;
 pub enum Lines {
     To(usize),
     Refused(Refusal),
+}
+
+// Whether a partition counts as saved, where its distance is d: it is the same.
+fn counts_as_saved(y: u64, d: u64) -> bool
+    ensures { λ r. ⌜ r ≡ countsAsSaved most y d ⌝ }
+{
+    d == 0
+}
+
+// How many of the partitions count as saved, a distance for each.
+fn saved_of(ys: &[u64], ds: &[u64]) -> usize
+    requires { ⌜ length (now ys) ≡ length (now ds) ⌝ }
+    ensures { λ r. ⌜ r ≡ savedOf most (now (ys .entry)) (now (ds .entry)) ⌝ }
+{
+    let mut r: usize = 0;
+    let mut i: usize = 0;
+    while i < ds.len() {
+        r += counts_as_saved(ys[i], ds[i]) as usize;
+        i += 1;
+    }
+    r
 }
 
 // How many bytes the verdict lines of move m take, a line for each distance.
@@ -43,12 +65,12 @@ fn verdicts_width(m: u64, ds: &[u64]) -> usize
 }
 
 // How many bytes the lines of move m take, where same of the distances are 0.
-fn lines_width(m: u64, ds: &[u64], same: usize) -> usize
+fn lines_width(m: u64, ds: &[u64], saved: usize, same: usize) -> usize
     requires { ⌜ (length (now ds) ≤ mostPartitions) × (same ≡ zeros (now ds)) ⌝ }
-    ensures { λ r. ⌜ r ≡ length (moveLines m (now (ds .entry))) ⌝ }
+    ensures { λ r. ⌜ r ≡ length (linesWith m (now (ds .entry)) saved) ⌝ }
 {
     let w = verdicts_width(m, ds);
-    let k = text::saved_width(m, same as u64, ds.len() as u64);
+    let k = text::saved_width(m, saved as u64, same as u64, ds.len() as u64);
     w + k
 }
 
@@ -68,12 +90,12 @@ fn put_verdicts(m: u64, ds: &[u64], out: &mut [u8]) -> usize
 }
 
 // Writes the lines of move m at the start of out; how many bytes.
-fn put_lines(m: u64, ds: &[u64], same: usize, out: &mut [u8]) -> usize
-    requires { ⌜ (length (now ds) ≤ mostPartitions) × (same ≡ zeros (now ds)) × (length (moveLines m (now ds)) ≤ length (now out)) ⌝ }
-    ensures { λ r. ⌜ (r ≡ length (moveLines m (now (ds .entry)))) × (now (out .exit) ≡ putFirst (moveLines m (now (ds .entry))) (now (out .entry))) ⌝ }
+fn put_lines(m: u64, ds: &[u64], saved: usize, same: usize, out: &mut [u8]) -> usize
+    requires { ⌜ (length (now ds) ≤ mostPartitions) × (same ≡ zeros (now ds)) × (length (linesWith m (now ds) saved) ≤ length (now out)) ⌝ }
+    ensures { λ r. ⌜ (r ≡ length (linesWith m (now (ds .entry)) saved)) × (now (out .exit) ≡ putFirst (linesWith m (now (ds .entry)) saved) (now (out .entry))) ⌝ }
 {
     let e = put_verdicts(m, ds, out);
-    let k = text::saved_line(m, same as u64, ds.len() as u64, &mut out[e..]);
+    let k = text::saved_line(m, saved as u64, same as u64, ds.len() as u64, &mut out[e..]);
     e + k
 }
 
@@ -110,20 +132,21 @@ fn put_where_room(
     m: Move,
     number: u64,
     ds: &[u64],
+    saved: usize,
     same: usize,
     out: &mut [u8],
     place: usize,
 ) -> Lines
     requires { ⌜ (Fit n (now t) (now near) (now s) (moveOf m)) × (length (now ds) ≤ mostPartitions) × (same ≡ zeros (now ds)) ⌝ }
-    ensures { λ r. ⌜ Puts (moveLines number (now (ds .entry))) (now (t .entry)) (moved n (now (t .entry)) (moveOf m)) (now (out .entry)) place r (now (t .exit)) (now (out .exit)) ⌝ }
+    ensures { λ r. ⌜ Puts (linesWith number (now (ds .entry)) saved) (now (t .entry)) (moved n (now (t .entry)) (moveOf m)) (now (out .entry)) place r (now (t .exit)) (now (out .exit)) ⌝ }
 {
-    let k = lines_width(number, ds, same);
+    let k = lines_width(number, ds, saved, same);
     let fits = has_room(out.len(), place, k);
     move_where(fits, n, t, near, s, m);
     if !fits {
         return Lines::Refused(Refusal::Room);
     }
-    put_lines(number, ds, same, &mut out[place..]);
+    put_lines(number, ds, saved, same, &mut out[place..]);
     Lines::To(place + k)
 }
 
@@ -145,7 +168,9 @@ fn list_fit(
 {
     let mut ds = [0u64; judge::PARTITIONS];
     let same = judge::judge_groups(n, t, near, s, ys, m, &mut ds);
-    put_where_room(n, t, near, s, m, number, &ds[..ys.len()], same, out, place)
+    let found = &ds[..ys.len()];
+    let saved = saved_of(ys, found);
+    put_where_room(n, t, near, s, m, number, found, saved, same, out, place)
 }
 
 // The lines of a tree's move: refusals 6 to 11.

@@ -92,20 +92,20 @@ module _ (x k : ℕ) (o : List ℕ) (at : ℕ) {a : ℕ} {p : List ℕ} where
 
 -- ---- the lines
 module _ (o : List ℕ) {a b c : ℕ} {p q r : List ℕ} where
-  pub saved-made : (m n k : ℕ) {e f g : ℕ} {s t u : List ℕ} → length (savedLine m n k) ≤ length o
-      → First o (decimal m) a p → Then a p savedWord b q → Then b q (decimal n) c r → Then c r blank e s → Then e s (className n k) f t → Then f t feed g u → First o (savedLine m n k) g u
+  pub saved-made : (m n same k : ℕ) {e f g : ℕ} {s t u : List ℕ} → length (savedLine m n same k) ≤ length o
+      → First o (decimal m) a p → Then a p savedWord b q → Then b q (decimal n) c r → Then c r blank e s → Then e s (className same k) f t → Then f t feed g u → First o (savedLine m n same k) g u
   unfolding savedLine
-  saved-made m n k room h1 h2 h3 h4 h5 h6 =
+  saved-made m n same k room h1 h2 h3 h4 h5 h6 =
       let ds1 = decimal m in
       let ds2 = ds1 ++ savedWord in
       let ds3 = ds2 ++ decimal n in
       let ds4 = ds3 ++ blank in
-      let ds5 = ds4 ++ className n k in
+      let ds5 = ds4 ++ className same k in
       let r5 : length ds5 ≤ length o = shorter ds5 feed room in
-      let r4 : length ds4 ≤ length o = shorter ds4 (className n k) r5 in
+      let r4 : length ds4 ≤ length o = shorter ds4 (className same k) r5 in
       let r3 : length ds3 ≤ length o = shorter ds3 blank r4 in
       let r2 : length ds2 ≤ length o = shorter ds2 (decimal n) r3 in
-      follows o ds5 feed _ _ room (follows o ds4 (className n k) _ _ r5 (follows o ds3 blank c _ r4 (follows o ds2 (decimal n) b c r3 (follows o ds1 savedWord a b r2 h1 h2) h3) h4) h5) h6
+      follows o ds5 feed _ _ room (follows o ds4 (className same k) _ _ r5 (follows o ds3 blank c _ r4 (follows o ds2 (decimal n) b c r3 (follows o ds1 savedWord a b r2 h1 h2) h3) h4) h5) h6
 
   pub refused-made : (x y : ℕ) {e f : ℕ} {s t : List ℕ} → length (refusedLine x y) ≤ length o
       → Then 0 o refusedWord a p → Then a p (decimal x) b q → Then b q atWord c r → Then c r (decimal y) e s → Then e s feed f t → First o (refusedLine x y) f t

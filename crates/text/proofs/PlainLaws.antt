@@ -95,12 +95,12 @@ verdict-line m p d = line-after (decimal m ++ blank ++ decimal p) (rest (eqb d 0
     go true = ended (32 ∷ 115 ∷ 97 ∷ 109 ∷ 101 ∷ 32 ∷ []) 48 refl (omega arith) (omega arith)
     go false = number-line changedWord d refl
 
-saved-line : (m s k : ℕ) → Line (savedLine m s k)
+saved-line : (m s c k : ℕ) → Line (savedLine m s c k)
 unfolding savedLine savedWord shown
-saved-line m s k =
+saved-line m s c k =
     let w = decimal m ++ savedWord ++ decimal s ++ blank in
     let h = shown-append (decimal m ++ savedWord ++ decimal s) blank (then-decimal (decimal m ++ savedWord) s (shown-append (decimal m) savedWord (decimal-shown m) refl)) refl in
-    subst Line (sym (append-assoc w (className s k) feed)) (line-after w (className s k ++ feed) h (class-line s k))
+    subst Line (sym (append-assoc w (className c k) feed)) (line-after w (className c k ++ feed) h (class-line c k))
 
 end-line : (m : ℕ) → Line (endLine m)
 unfolding endLine endWord shown
@@ -117,8 +117,8 @@ one-plain l h = subst Plain (append-nil l) (then l [] h none)
 pub verdict-plain : (m p d : ℕ) → Plain (verdictLine m p d)
 verdict-plain m p d = one-plain (verdictLine m p d) (verdict-line m p d)
 
-pub saved-plain : (m s k : ℕ) → Plain (savedLine m s k)
-saved-plain m s k = one-plain (savedLine m s k) (saved-line m s k)
+pub saved-plain : (m s c k : ℕ) → Plain (savedLine m s c k)
+saved-plain m s c k = one-plain (savedLine m s c k) (saved-line m s c k)
 
 pub end-plain : (m : ℕ) → Plain (endLine m)
 end-plain m = one-plain (endLine m) (end-line m)

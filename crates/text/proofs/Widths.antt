@@ -173,13 +173,13 @@ module _ (m p d : ℕ) where
       (λ z. omega (arith, changed-bytes (eqb-false d 0 z), decimal-few m hm, decimal-few p hp, decimal-few d hd))
       (either (eqb d 0))
 
-module _ (m s k : ℕ) where
-  pub saved-bytes : length (savedLine m s k) ≡ length (decimal m) + 7 + length (decimal s) + 1 + length (className s k) + 1
+module _ (m s c k : ℕ) where
+  pub saved-bytes : length (savedLine m s c k) ≡ length (decimal m) + 7 + length (decimal s) + 1 + length (className c k) + 1
   unfolding savedLine savedWord
   saved-bytes = simp length-append (omega arith)
 
-  pub saved-few : m < 2 ^ 64 → s ≤ 64 → k ≤ 64 → length (savedLine m s k) ≤ 60
-  saved-few hm hs hk = omega (arith, saved-bytes, decimal-few m hm, decimal-below s 1 (omega arith), class-few s k)
+  pub saved-few : m < 2 ^ 64 → s < 2 ^ 64 → length (savedLine m s c k) ≤ 60
+  saved-few hm hs = omega (arith, saved-bytes, decimal-few m hm, decimal-few s hs, class-few c k)
 
 pub end-bytes : (m : ℕ) → length (endLine m) ≡ 4 + length (decimal m) + 1
 unfolding endLine endWord

@@ -74,11 +74,11 @@ unfoldable pub verdictLine : ℕ → ℕ → ℕ → List ℕ
 verdictLine m p d =
     decimal m ++ blank ++ decimal p ++ pick (eqb d 0) sameWord (changedWord ++ decimal d ++ feed)
 
--- `m saved s t`: s counts the partitions that are the same, t is the terrace
--- class.
-unfoldable pub savedLine : ℕ → ℕ → ℕ → List ℕ
-savedLine m s k =
-    decimal m ++ savedWord ++ decimal s ++ blank ++ className s k ++ feed
+-- `m saved s t`: s is the number saved, t is the terrace class, from the number
+-- c of k partitions that are the same.
+unfoldable pub savedLine : ℕ → ℕ → ℕ → ℕ → List ℕ
+savedLine m s c k =
+    decimal m ++ savedWord ++ decimal s ++ blank ++ className c k ++ feed
 
 -- `end M`.
 unfoldable pub endLine : ℕ → List ℕ

@@ -92,16 +92,17 @@ pub fn verdict_line(m: u64, p: u64, d: u64, out: &mut [u8]) -> usize
     then_word(b"\n", out, f)
 }
 
-// Writes the line of a move: `m saved s t`; how many bytes.
-pub fn saved_line(m: u64, s: u64, k: u64, out: &mut [u8]) -> usize
-    requires { ⌜ (s ≤ 64) × (k ≤ 64) × (length (savedLine m s k) ≤ length (now out)) ⌝ }
-    ensures { λ r. ⌜ (r ≡ length (savedLine m s k)) × (now (out .exit) ≡ putFirst (savedLine m s k) (now (out .entry))) ⌝ }
+// Writes the line of a move: `m saved s t`, t being the class of same of k
+// partitions; how many bytes.
+pub fn saved_line(m: u64, s: u64, same: u64, k: u64, out: &mut [u8]) -> usize
+    requires { ⌜ (same ≤ 64) × (k ≤ 64) × (length (savedLine m s same k) ≤ length (now out)) ⌝ }
+    ensures { λ r. ⌜ (r ≡ length (savedLine m s same k)) × (now (out .exit) ≡ putFirst (savedLine m s same k) (now (out .entry))) ⌝ }
 {
     let a = number(m, out);
     let b = then_word(b" saved ", out, a);
     let c = then_number(s, out, b);
     let e = then_word(b" ", out, c);
-    let f = then_class(s, k, out, e);
+    let f = then_class(same, k, out, e);
     then_word(b"\n", out, f)
 }
 
@@ -153,9 +154,9 @@ fn class_width(s: u64, k: u64) -> usize
 }
 
 // How many bytes saved_line writes.
-pub fn saved_width(m: u64, s: u64, k: u64) -> usize
-    requires { ⌜ (s ≤ 64) × (k ≤ 64) ⌝ }
-    ensures { λ r. ⌜ r ≡ length (savedLine m s k) ⌝ }
+pub fn saved_width(m: u64, s: u64, same: u64, k: u64) -> usize
+    requires { ⌜ (same ≤ 64) × (k ≤ 64) ⌝ }
+    ensures { λ r. ⌜ r ≡ length (savedLine m s same k) ⌝ }
 {
-    width(m) + 7 + width(s) + 1 + class_width(s, k) + 1
+    width(m) + 7 + width(s) + 1 + class_width(same, k) + 1
 }

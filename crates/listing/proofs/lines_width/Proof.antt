@@ -1,11 +1,8 @@
 -- `listing::lines_width` meets its contract. Assumes nothing.
-use mathlib.Core.Path.{ap}
-use Prim.Native.Nat.{ℕ}
 use native.Mathlib.Omega.{arith}
 use lib.ListN.{length}
-use Rattle.text.specs.Lines.{savedLine}
-use Rattle.text.proofs.Widths.{saved-few}
 use Rattle.rules.proofs.Judging.{zeros-le}
+use Rattle.text.proofs.Widths.{saved-few}
 use Rattle.listing.proofs.LineLaws.{lines-length}
 use borrow.Author.Needs.{needs}
 use Rattle.listing.proofs.lines_width.Statement.{statement}
@@ -16,15 +13,30 @@ verdicts-width-requires c κs = search needs
 
 saved-width-requires : tie.Need-saved-width-requires
 saved-width-requires c κs =
-    (omega (arith, c .before .before .pre .1, zeros-le (c .before .before .args .ds .now), c .before .before .pre .0), c .before .before .pre .0)
+    let st = c .before .before in
+    (omega (arith, st .pre .1, zeros-le (st .args .ds .now), st .pre .0), st .pre .0)
 
 add-result : tie.Need-add-result
 add-result c =
-    record { fits = omega (arith, c .before .verdicts-width .ensures .1, c .saved-width .ensures, saved-few (c .before .before .before .args .m) (c .before .before .before .args .same) (length (c .before .before .before .args .ds .now)) (c .before .before .before .fits .m .fits) (omega (arith, c .before .before .before .pre .1, zeros-le (c .before .before .before .args .ds .now), c .before .before .before .pre .0)) (c .before .before .before .pre .0)) }
+    let st = c .before .before .before in
+    record {
+      fits = omega (
+        arith,
+        c .before .verdicts-width .ensures .1,
+        c .saved-width .ensures,
+        saved-few (st .args .m) (st .args .saved) (st .args .same) (length (st .args .ds .now)) (st .fits .m .fits) (st .fits .saved .fits),
+      );
+    }
 
 returns : tie.Need-returns
 returns c =
-    omega (arith, c .before .verdicts-width .ensures .0, c .saved-width .ensures, ap (λ (z : ℕ). length (savedLine (c .before .before .before .args .m) z (length (c .before .before .before .args .ds .now)))) (c .before .before .before .pre .1), lines-length (c .before .before .before .args .m) (c .before .before .before .args .ds .now))
+    let st = c .before .before .before in
+    omega (
+      arith,
+      c .before .verdicts-width .ensures .0,
+      c .saved-width .ensures,
+      lines-length (st .args .m) (st .args .ds .now) (st .args .saved) (st .args .same) (st .pre .1),
+    )
 
 pub lines-width-spec : {M : Type 1} → statement M
 lines-width-spec =

@@ -1,16 +1,14 @@
 -- `listing::list_fit` meets its contract. Assumes nothing.
-use mathlib.Core.Path.{sym, ap, _∙_}
-use lib.ListN.{length, length-replicate}
-use Rattle.listing.proofs.LineLaws.{told-take, told-within}
+use mathlib.Core.Path.{sym, _∙_}
 use Prim.Native.Nat.{ℕ}
 use native.Mathlib.Omega.{arith}
-use Rattle.taxa.specs.Most.{mostPartitions}
-use Rattle.tree.specs.Splits.{distances}
+use lib.ListN.{length-replicate}
+use Rattle.taxa.specs.Most.{most, mostPartitions}
 use Rattle.moves.specs.Moves.{moved}
 use Rattle.fits.specs.Bytes.{moveOf}
-use Rattle.rules.specs.Each.{zeros}
-use Rattle.rules.proofs.Judging.{distances-length}
 use Rattle.judge.proofs.SaidLaws.{few-of, each-of}
+use Rattle.listing.proofs.SavedLaws.{saved-wide}
+use Rattle.listing.proofs.LineLaws.{found-are, found-length, found-within, found-same}
 use Rattle.listing.proofs.ListsLaws.{lists-put}
 use borrow.Author.Needs.{needs}
 use Rattle.listing.proofs.list_fit.Statement.{statement}
@@ -21,20 +19,43 @@ slice-aggregate-judge-groups c = search needs
 
 judge-groups-requires : tie.Need-judge-groups-requires
 judge-groups-requires c κs =
-    (c .before .before .before .before .before .before .before .pre .0, each-of (c .before .before .before .before .before .before .before .args .n) (c .before .before .before .before .before .before .before .args .ys .now) (c .before .before .before .before .before .before .before .pre .1), omega (arith, few-of (c .before .before .before .before .before .before .before .args .n) (c .before .before .before .before .before .before .before .args .ys .now) (c .before .before .before .before .before .before .before .pre .1), length-replicate {A = ℕ} mostPartitions 0))
+    let st = c .before .before .before .before .before .before .before in (
+      st .pre .0,
+      each-of (st .args .n) (st .args .ys .now) (st .pre .1),
+      omega (arith, few-of (st .args .n) (st .args .ys .now) (st .pre .1), length-replicate {A = ℕ} mostPartitions 0),
+    )
 
 array-share-prefix-ds : tie.Need-array-share-prefix-ds
 array-share-prefix-ds c =
-    told-within (distances (c .before .before .before .before .before .before .before .before .before .before .args .n) (c .before .before .before .before .before .before .before .before .before .before .args .t .now) (moved (c .before .before .before .before .before .before .before .before .before .before .args .n) (c .before .before .before .before .before .before .before .before .before .before .args .t .now) (moveOf (c .before .before .before .before .before .before .before .before .before .before .args .m))) (c .before .before .before .before .before .before .before .before .before .before .args .ys .now)) _ _ _ (length (c .before .before .before .before .before .before .before .before .before .before .args .ys .now)) (sym (distances-length (c .before .before .before .before .before .before .before .before .before .before .args .n) (c .before .before .before .before .before .before .before .before .before .before .args .t .now) (moved (c .before .before .before .before .before .before .before .before .before .before .args .n) (c .before .before .before .before .before .before .before .before .before .before .args .t .now) (moveOf (c .before .before .before .before .before .before .before .before .before .before .args .m))) (c .before .before .before .before .before .before .before .before .before .before .args .ys .now))) (c .before .before .judge-groups .ensures)
+    let st = c .before .before .before .before .before .before .before .before .before in
+    let u = moved (st .args .n) (st .args .t .now) (moveOf (st .args .m)) in
+    found-within (st .args .n) (st .args .t .now) u (st .args .ys .now) (c .before .judge-groups .ensures)
 
-slice-aggregate-put-where-room : tie.Need-slice-aggregate-put-where-room
-slice-aggregate-put-where-room c =
-    sym (ap length (told-take (distances (c .before .before .before .before .before .before .before .before .before .before .before .args .n) (c .before .before .before .before .before .before .before .before .before .before .before .args .t .now) (moved (c .before .before .before .before .before .before .before .before .before .before .before .args .n) (c .before .before .before .before .before .before .before .before .before .before .before .args .t .now) (moveOf (c .before .before .before .before .before .before .before .before .before .before .before .args .m))) (c .before .before .before .before .before .before .before .before .before .before .before .args .ys .now)) _ _ _ (length (c .before .before .before .before .before .before .before .before .before .before .before .args .ys .now)) (sym (distances-length (c .before .before .before .before .before .before .before .before .before .before .before .args .n) (c .before .before .before .before .before .before .before .before .before .before .before .args .t .now) (moved (c .before .before .before .before .before .before .before .before .before .before .before .args .n) (c .before .before .before .before .before .before .before .before .before .before .before .args .t .now) (moveOf (c .before .before .before .before .before .before .before .before .before .before .before .args .m))) (c .before .before .before .before .before .before .before .before .before .before .before .args .ys .now))) (c .before .before .before .judge-groups .ensures)) ∙ distances-length (c .before .before .before .before .before .before .before .before .before .before .before .args .n) (c .before .before .before .before .before .before .before .before .before .before .before .args .t .now) (moved (c .before .before .before .before .before .before .before .before .before .before .before .args .n) (c .before .before .before .before .before .before .before .before .before .before .before .args .t .now) (moveOf (c .before .before .before .before .before .before .before .before .before .before .before .args .m))) (c .before .before .before .before .before .before .before .before .before .before .before .args .ys .now))
+slice-aggregate-found : tie.Need-slice-aggregate-found
+slice-aggregate-found c =
+    let st = c .before .before .before .before .before .before .before .before .before .before in
+    let u = moved (st .args .n) (st .args .t .now) (moveOf (st .args .m)) in
+    sym (found-length (st .args .n) (st .args .t .now) u (st .args .ys .now) (c .before .before .judge-groups .ensures))
+
+saved-of-requires : tie.Need-saved-of-requires
+saved-of-requires c κs =
+    let st = c .before .before .before .before .before .before .before .before .before .before in
+    let u = moved (st .args .n) (st .args .t .now) (moveOf (st .args .m)) in
+    sym (found-length (st .args .n) (st .args .t .now) u (st .args .ys .now) (c .before .before .judge-groups .ensures))
 
 put-where-room-requires : tie.Need-put-where-room-requires
 put-where-room-requires c κs =
-    let e = told-take (distances (c .before .before .before .before .before .before .before .before .before .before .before .before .args .n) (c .before .before .before .before .before .before .before .before .before .before .before .before .args .t .now) (moved (c .before .before .before .before .before .before .before .before .before .before .before .before .args .n) (c .before .before .before .before .before .before .before .before .before .before .before .before .args .t .now) (moveOf (c .before .before .before .before .before .before .before .before .before .before .before .before .args .m))) (c .before .before .before .before .before .before .before .before .before .before .before .before .args .ys .now)) _ _ _ (length (c .before .before .before .before .before .before .before .before .before .before .before .before .args .ys .now)) (sym (distances-length (c .before .before .before .before .before .before .before .before .before .before .before .before .args .n) (c .before .before .before .before .before .before .before .before .before .before .before .before .args .t .now) (moved (c .before .before .before .before .before .before .before .before .before .before .before .before .args .n) (c .before .before .before .before .before .before .before .before .before .before .before .before .args .t .now) (moveOf (c .before .before .before .before .before .before .before .before .before .before .before .before .args .m))) (c .before .before .before .before .before .before .before .before .before .before .before .before .args .ys .now))) (c .before .before .before .before .judge-groups .ensures) in
-    (c .before .before .before .before .before .before .before .before .before .before .before .before .pre .0, omega (arith, ap length e, distances-length (c .before .before .before .before .before .before .before .before .before .before .before .before .args .n) (c .before .before .before .before .before .before .before .before .before .before .before .before .args .t .now) (moved (c .before .before .before .before .before .before .before .before .before .before .before .before .args .n) (c .before .before .before .before .before .before .before .before .before .before .before .before .args .t .now) (moveOf (c .before .before .before .before .before .before .before .before .before .before .before .before .args .m))) (c .before .before .before .before .before .before .before .before .before .before .before .before .args .ys .now), few-of (c .before .before .before .before .before .before .before .before .before .before .before .before .args .n) (c .before .before .before .before .before .before .before .before .before .before .before .before .args .ys .now) (c .before .before .before .before .before .before .before .before .before .before .before .before .pre .1)), c .before .before .before .before .judge-groups .ensures .count ∙ sym (ap zeros e))
+    let st = c .before .before .before .before .before .before .before .before .before .before .before .before .before in
+    let u = moved (st .args .n) (st .args .t .now) (moveOf (st .args .m)) in
+    let told = c .before .before .before .before .before .judge-groups .ensures in (
+      st .pre .0,
+      omega (
+        arith,
+        found-length (st .args .n) (st .args .t .now) u (st .args .ys .now) told,
+        few-of (st .args .n) (st .args .ys .now) (st .pre .1),
+      ),
+      found-same (st .args .n) (st .args .t .now) u (st .args .ys .now) told,
+    )
 
 same-length : tie.Need-same-length
 same-length c = search needs
@@ -44,7 +65,16 @@ same-length-2 c = search needs
 
 returns : tie.Need-returns
 returns c =
-    lists-put (c .before .before .before .before .before .before .before .before .before .before .before .before .before .before .before .before .before .args .n) (c .before .before .before .before .before .before .before .before .before .before .before .before .before .before .before .before .before .args .t .now) (c .before .before .before .before .before .before .before .before .before .before .before .before .before .before .before .before .before .args .ys .now) (moveOf (c .before .before .before .before .before .before .before .before .before .before .before .before .before .before .before .before .before .args .m)) (c .before .before .before .before .before .before .before .before .before .before .before .before .before .before .before .before .before .args .number) (c .before .before .before .before .before .before .before .before .before .before .before .before .before .before .before .before .before .args .out .now) (c .before .before .before .before .before .before .before .before .before .before .before .before .before .before .before .before .before .args .place) (c .before .before .before .before .before .before .before .before .before .before .before .before .before .before .before .before .before .pre .0 .good) (c .before .before .before .before .before .before .before .before .before .before .before .before .before .before .before .before .before .pre .1) (c .before .before .before .before .before .before .before .before .before .before .before .before .before .before .before .before .before .pre .0 .fits) _ (told-take (distances (c .before .before .before .before .before .before .before .before .before .before .before .before .before .before .before .before .before .args .n) (c .before .before .before .before .before .before .before .before .before .before .before .before .before .before .before .before .before .args .t .now) (moved (c .before .before .before .before .before .before .before .before .before .before .before .before .before .before .before .before .before .args .n) (c .before .before .before .before .before .before .before .before .before .before .before .before .before .before .before .before .before .args .t .now) (moveOf (c .before .before .before .before .before .before .before .before .before .before .before .before .before .before .before .before .before .args .m))) (c .before .before .before .before .before .before .before .before .before .before .before .before .before .before .before .before .before .args .ys .now)) _ _ _ (length (c .before .before .before .before .before .before .before .before .before .before .before .before .before .before .before .before .before .args .ys .now)) (sym (distances-length (c .before .before .before .before .before .before .before .before .before .before .before .before .before .before .before .before .before .args .n) (c .before .before .before .before .before .before .before .before .before .before .before .before .before .before .before .before .before .args .t .now) (moved (c .before .before .before .before .before .before .before .before .before .before .before .before .before .before .before .before .before .args .n) (c .before .before .before .before .before .before .before .before .before .before .before .before .before .before .before .before .before .args .t .now) (moveOf (c .before .before .before .before .before .before .before .before .before .before .before .before .before .before .before .before .before .args .m))) (c .before .before .before .before .before .before .before .before .before .before .before .before .before .before .before .before .before .args .ys .now))) (c .before .before .before .before .before .before .before .before .before .judge-groups .ensures)) (c .before .before .before .before .put-where-room .ensures)
+    let st = c .before .before .before .before .before .before .before .before .before .before .before .before .before .before .before .before .before .before in
+    let n = st .args .n in
+    let t = st .args .t .now in
+    let ys = st .args .ys .now in
+    let u = moved n t (moveOf (st .args .m)) in
+    let wide = saved-wide n most ys _ (st .pre .0 .good .few) (each-of n ys (st .pre .1)) in
+    lists-put n t ys (moveOf (st .args .m)) (st .args .number) (st .args .out .now) (st .args .place)
+    (st .pre .0 .good) (st .pre .1) (st .pre .0 .fits) _ _
+    (found-are n t u ys (c .before .before .before .before .before .before .before .before .before .before .judge-groups .ensures))
+    (c .before .before .before .before .before .before .before .saved-of .ensures ∙ wide) (c .before .before .before .before .put-where-room .ensures)
 
 pub list-fit-spec : {M : Type 1} → statement M
 list-fit-spec =
@@ -53,7 +83,8 @@ list-fit-spec =
     slice-aggregate-judge-groups
     judge-groups-requires
     array-share-prefix-ds
-    slice-aggregate-put-where-room
+    slice-aggregate-found
+    saved-of-requires
     put-where-room-requires
     same-length
     same-length-2
