@@ -468,12 +468,22 @@ static size_t class_of(size_t same, size_t count)
     return i;
 }
 
+/* How many partitions are the same and have four or more taxa. */
+static size_t saved_of(const uint64_t *partitions, const uint64_t *distances,
+                       size_t count)
+{
+    size_t saved = 0;
+    for (size_t i = 0; i < count; i++)
+        saved += distances[i] == 0 && __builtin_popcountll(partitions[i]) >= 4;
+    return saved;
+}
+
 /* How many bytes the lines of a move take. */
 static size_t lines_width(uint64_t number, const uint64_t *distances,
-                          size_t count, size_t same)
+                          size_t count, size_t saved, size_t same)
 {
     size_t head = digits(number) + 1;
-    size_t width = head + 8 + digits(same);
+    size_t width = head + 8 + digits(saved);
     if (same == 0 || same == count)
         width += 4;
     else
@@ -504,10 +514,10 @@ static uint8_t *put_verdict(uint8_t *out, size_t partition, uint64_t distance)
 }
 
 /* Writes the closing line after the move's number. */
-static void put_saved(uint8_t *out, size_t same, size_t count)
+static void put_saved(uint8_t *out, size_t saved, size_t same, size_t count)
 {
     out = put_word(out, "saved ", 6);
-    out += plain_number(out, same);
+    out += plain_number(out, saved);
     if (same == 0) {
         put_word(out, " none\n", 6);
     } else if (same == count) {
@@ -521,7 +531,7 @@ static void put_saved(uint8_t *out, size_t same, size_t count)
 
 /* Writes the lines of a move. */
 static void put_lines(uint8_t *out, uint64_t number, const uint64_t *distances,
-                      size_t count, size_t same)
+                      size_t count, size_t saved, size_t same)
 {
     uint8_t head[21];
     size_t width = plain_number(head, number);
@@ -531,7 +541,7 @@ static void put_lines(uint8_t *out, uint64_t number, const uint64_t *distances,
         out = put_verdict(out + width, i + 1, distances[i]);
     }
     memcpy(out, head, width);
-    put_saved(out + width, same, count);
+    put_saved(out + width, saved, same, count);
 }
 
 tusvlane_answer plain_list_move(size_t n, uint8_t *restrict table,
@@ -548,10 +558,11 @@ tusvlane_answer plain_list_move(size_t n, uint8_t *restrict table,
     if (refusal)
         return (tusvlane_answer){refusal, 0};
     size_t same = judge(&t, partitions, partition_count, move, distances);
-    size_t width = lines_width(number, distances, partition_count, same);
+    size_t saved = saved_of(partitions, distances, partition_count);
+    size_t width = lines_width(number, distances, partition_count, saved, same);
     if (place > out_bytes || out_bytes - place < width)
         return (tusvlane_answer){TUSVLANE_ROOM, 0};
     make(&t, table, move);
-    put_lines(out + place, number, distances, partition_count, same);
+    put_lines(out + place, number, distances, partition_count, saved, same);
     return (tusvlane_answer){0, place + width};
 }

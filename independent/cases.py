@@ -55,6 +55,45 @@ COMPARISONS = [
     ((2, 0, 7, 0), [0, 1, 2, 3], (2, 12), (2, 6)),
 ]
 
+# For jobs on tree S, the last byte of each partition, the moves, and the listing.
+SAVED = [
+    # None, 2, 2 and 3, 0 2 3, 0 1 4 5: all the same, and one has four taxa.
+    ("00 04 0C 0D 33", ["01040305"],
+     b"1 1 same 0\n1 2 same 0\n1 3 same 0\n1 4 same 0\n1 5 same 0\n"
+     b"1 saved 1 full\nend 1\n"),
+    # 5, 0 3, 2 3 4: fewer than four taxa each, whatever the moves.
+    ("20 09 1C", ["01040305", "02000700"],
+     b"1 1 same 0\n1 2 same 0\n1 3 same 0\n1 saved 0 full\n"
+     b"2 1 same 0\n2 2 same 0\n2 3 same 0\n2 saved 0 full\nend 2\n"),
+    # No taxon at all, and no other partition.
+    ("00", ["03040007"], b"1 1 same 0\n1 saved 0 full\nend 1\n"),
+    # Four taxa, and no other partition.
+    ("33", ["01040305"], b"1 1 same 0\n1 saved 1 full\nend 1\n"),
+    # None, 3, all, 0 1 4 5: three of four are the same.
+    ("00 08 3F 33", ["01040305"],
+     b"1 1 same 0\n1 2 same 0\n1 3 changed 2\n1 4 same 0\n1 saved 1 pt8\nend 1\n"),
+    # 0 1 2, all: one of two is the same.
+    ("07 3F", ["01040305"], b"1 1 same 0\n1 2 changed 2\n1 saved 0 pt5\nend 1\n"),
+    # All, 0 2 3 4: nothing is the same.
+    ("3F 1D", ["01040305"], b"1 1 changed 2\n1 2 changed 2\n1 saved 0 none\nend 1\n"),
+    # All, 0 1 2 3, 0 1 2, 1 to 5: two of four are the same, one has five taxa.
+    ("3F 0F 07 3E", ["02000700"],
+     b"1 1 changed 6\n1 2 changed 2\n1 3 same 0\n1 4 same 0\n1 saved 1 pt5\nend 1\n"),
+    # 0 1 3 4, 0 1 2 3, 3 4 5, 0 5, all: three of five are the same.
+    ("1B 0F 38 21 3F", ["03040007"],
+     b"1 1 same 0\n1 2 changed 2\n1 3 same 0\n1 4 same 0\n1 5 changed 4\n"
+     b"1 saved 1 pt6\nend 1\n"),
+    # None, 0 1 2, 0 1 2 3, 1 to 5: the one saved is another after the second move.
+    ("00 07 0F 3E", ["01040305", "02000700"],
+     b"1 1 same 0\n1 2 same 0\n1 3 same 0\n1 4 changed 2\n1 saved 1 pt8\n"
+     b"2 1 same 0\n2 2 same 0\n2 3 changed 2\n2 4 same 0\n2 saved 1 pt8\nend 2\n"),
+]
+# Partitions of 64 taxa along a line; by the NNI 94,31,32 the taxa 31 and 32 change places.
+SAVED_ON_LINE = [[0, 31, 32, 63], [0, 1, 62, 63], [31, 32, 63], [0, 30, 33, 63],
+                 [60, 61, 62, 63], [61, 62, 63]]
+LINES_ON_LINE = (b"7 1 changed 2\n7 2 same 0\n7 3 same 0\n7 4 same 0\n7 5 same 0\n"
+                 b"7 6 same 0\n7 saved 3 pt9\n")
+
 # For a number of taxa and a text that is no tree, the place.
 NEWICK_PLACES = [
     (4, b"", 0), (4, b"(0,1,2", 5), (4, b"((((", 3), (4, b" (", 0),
@@ -116,14 +155,38 @@ def check_numbers():
         assert tusvlane.compare(6, after, TREE_S, partition_of(taxa)) == back
 
 
+def line_of(n):
+    """The table of n taxa along a line: row v is that of taxon v, or joins nodes v and v+1."""
+    rows = [(0, n)] + [(taxon, n - 1 + taxon) for taxon in range(1, n - 1)]
+    rows += [(n - 1, 2 * n - 3)] + [(inner, inner + 1) for inner in range(n, 2 * n - 3)]
+    return tusvlane.table_of(rows)
+
+
 def check_line():
     """The list of a tree of 43 taxa along a line: no split is written by more than 21 taxa."""
-    rows = [(0, 43)] + [(taxon, 42 + taxon) for taxon in range(1, 42)] + [(42, 83)]
-    line = tusvlane.table_of(rows + [(inner, inner + 1) for inner in range(43, 83)])
-    numbers = tusvlane.induced_splits(43, line, 2 ** 43 - 1, 83)
+    numbers = tusvlane.induced_splits(43, line_of(43), 2 ** 43 - 1, 83)
     lower = [2 ** size - 1 for size in range(2, 22)]
     upper = [2 ** 43 - 2 ** size for size in range(22, 42)]
     assert numbers == sorted([1 << taxon for taxon in range(43)] + lower + upper)
+
+
+def saved_job(last_bytes, moves):
+    """A job on tree S: partitions by their last bytes in hex, then moves in hex."""
+    job = bytes.fromhex("01 0001 06 02 0012") + TREE_S
+    for byte in bytes.fromhex(last_bytes):
+        job += bytes.fromhex("03 0008 00000000000000") + bytes([byte])
+    for move in moves:
+        job += bytes.fromhex("04 0004" + move)
+    return job
+
+
+def check_saved():
+    """What counts as saved, and the class beside it, on small jobs and on one large tree."""
+    for last_bytes, moves, listing in SAVED:
+        assert tusvlane.listing(saved_job(last_bytes, moves)) == listing
+    partitions = [partition_of(taxa) for taxa in SAVED_ON_LINE]
+    _, lines = tusvlane.list_move(64, line_of(64), partitions, (1, 94, 31, 32), 7, 1000)
+    assert lines == LINES_ON_LINE
 
 
 def check_sides():
@@ -159,4 +222,5 @@ def check():
     check_document()
     check_numbers()
     check_line()
+    check_saved()
     check_sides()

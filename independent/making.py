@@ -192,9 +192,28 @@ def divided_partition(pick, n, splits):
     return set_of(one + other)
 
 
+def small_partition(pick, n):
+    """A set of 0 to 3 taxa: too few to count as saved."""
+    return set_of(pick.sample(range(n), pick.randint(0, 3)))
+
+
+def partition_near_four(pick, n):
+    """A set of 0 to 5 taxa: too few to count as saved, or just enough."""
+    return set_of(pick.sample(range(n), min(n, pick.randint(0, 5))))
+
+
+def small_or_large(pick, n):
+    """A set of 0 to 3 taxa, or as likely one of 4 to n."""
+    if pick.random() < 0.5:
+        return small_partition(pick, n)
+    return set_of(pick.sample(range(n), pick.randint(4, n)))
+
+
 def make_partitions(pick, n, count):
-    """A list of partitions."""
-    return [make_partition(pick, n) for _ in range(count)]
+    """A list of partitions: of any size; small ones alone; near four; small and large ones."""
+    make = pick.choice([make_partition] * 5 + [small_partition] + [partition_near_four] * 2
+                       + [small_or_large] * 2)
+    return [make(pick, n) for _ in range(count)]
 
 
 # Moves.

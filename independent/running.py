@@ -66,10 +66,16 @@ def in_order(endings):
     return sorted(endings, key=key)
 
 
-def close(tally, endings, count):
-    """Prints what lacks and how many were different; the exit status."""
+def print_lacking(tally, endings, count):
+    """Prints the endings that were not met often enough, and gives them."""
     lacking = tally.lacking(endings, count)
     for ending in lacking:
         print("%d %s, fewer than %d" % (tally.met[ending], ending, count // 1000))
+    return lacking
+
+
+def close(tally, endings, count):
+    """Prints what lacks and how many were different; the exit status."""
+    lacking = print_lacking(tally, endings, count)
     print("%d different" % tally.different)
     return 1 if lacking or tally.different else 0

@@ -7,6 +7,7 @@ import functools
 
 LARGEST_JOB = 65535
 MOST_PARTITIONS = 64
+FEWEST_SCORED = 4
 
 NNI, SPR, TBR = 1, 2, 3
 TAG_COUNT, TAG_TABLE, TAG_PARTITION, TAG_MOVE = 1, 2, 3, 4
@@ -329,14 +330,20 @@ def terrace_class(s, k):
     return "pt%d" % min(i for i in range(1, 11) if 10 * s <= i * k)
 
 
-def move_lines(number, found):
-    """One move's lines, from the distances found for its partitions."""
+def saved_count(partitions, found):
+    """How many partitions count as saved: those that are the same and have four or more taxa."""
+    return sum(1 for partition, distance in zip(partitions, found)
+               if distance == 0 and set_size(partition) >= FEWEST_SCORED)
+
+
+def move_lines(number, partitions, found):
+    """One move's lines, from its partitions and the distances found for them."""
     lines = []
     for place, distance in enumerate(found, 1):
         word = "same" if distance == 0 else "changed"
         lines.append("%d %d %s %d\n" % (number, place, word, distance))
-    same = found.count(0)
-    lines.append("%d saved %d %s\n" % (number, same, terrace_class(same, len(found))))
+    name = terrace_class(found.count(0), len(found))
+    lines.append("%d saved %d %s\n" % (number, saved_count(partitions, found), name))
     return "".join(lines).encode("ascii")
 
 
@@ -345,7 +352,7 @@ def list_move(n, table, partitions, move, number, room):
     check_tree(n, table)
     check_partitions(n, partitions)
     after = moved(n, table, move)
-    lines = move_lines(number, distances(n, table, after, partitions))
+    lines = move_lines(number, partitions, distances(n, table, after, partitions))
     if len(lines) > room:
         raise Refused(11)
     return after, lines

@@ -1,20 +1,23 @@
 -- The three demands of the request, over the definitions, each theorem with a
 -- plain sentence above it. Assumes nothing.
-use mathlib.Core.Path.{_≡_, refl, ap}
+use mathlib.Core.Path.{_≡_, refl, sym, ap, _∙_}
 use mathlib.Core.Logic.{_↔_}
 use mathlib.Core.Bool.{true}
 use mathlib.Core.List.{List, _++_}
-use Prim.Native.Nat.{ℕ, suc, _*_, _^_, _≤_, _<_}
+use Prim.Native.Nat.{ℕ, suc, _+_, _*_, _^_, _≤_, _<_}
 use native.Mathlib.Omega.{arith}
+use lib.Dec.{ltb}
 use lib.ListN.{length}
-use Rattle.taxa.specs.Sets.{Sub}
+use Rattle.taxa.specs.Sets.{size, Sub}
 use Rattle.tree.specs.Tree.{rows, Valid}
 use Rattle.tree.specs.Lists.{mem}
 use Rattle.tree.specs.Splits.{holdsLowest, splits, distBy, dist}
 use Rattle.tree.specs.Splits.{distancesBy, distances, unchanged, Gains}
-use Rattle.tree.specs.Refusals.{Said, gives, refuses, written, Accepted}
+use Rattle.tree.specs.Refusals.{Said, gives, refuses, written, each}
+use Rattle.tree.specs.Refusals.{Accepted}
 use Rattle.tree.proofs.RefusalLaws.{Pass}
 use Rattle.tree.proofs.Monotone.{dist-lowest, distances-lowest, dist-mono}
+use Rattle.tree.proofs.FewTaxa.{few-same}
 use Rattle.table.specs.Says.{numberOf, checkSays}
 use Rattle.table.specs.declared.Checked.{Checked}
 use Rattle.table.specs.declared.Refusal.{Refusal}
@@ -40,10 +43,11 @@ use Rattle.judge.proofs.SaidLaws.{applies-one, judges-one, verdict-one}
 use Rattle.text.specs.Lines.{savedLine}
 use Rattle.text.specs.Plain.{Plain}
 use Rattle.listing.specs.Listing as listing
-use Rattle.listing.specs.Saved.{savedOf}
+use Rattle.listing.specs.Saved.{savedOf, scored, unscored}
 use Rattle.listing.specs.Listing.{verdictLines, moveLines, linesSaid}
 use Rattle.listing.specs.Listing.{placeAfter, Lists}
 use Rattle.listing.specs.declared.Lines.{Lines}
+use Rattle.listing.proofs.SavedLaws.{saved-unchanged, others-unchanged}
 use Rattle.listing.proofs.LineLaws.{lines-are}
 use Rattle.listing.proofs.ListsLaws.{lists-one}
 use Rattle.job.specs.Job.{Outcome, next, over, stop}
@@ -285,12 +289,35 @@ pub count-same : (n : ℕ) (t u ys : List ℕ)
 count-same = zeros-unchanged
 
 -- The `saved` number of a move is counted from the distances on the lines
--- above it.
+-- above it and the sizes of the partitions; the class beside it, from the
+-- distances alone.
 pub saved-counted : (n m : ℕ) (ys ds : List ℕ)
     → verdictLines m 1 ds
     ++ savedLine m (savedOf n ys ds) (zeros ds) (length ds)
     ≡ moveLines n m ys ds
 saved-counted n m ys ds = lines-are m ds (savedOf n ys ds) (zeros ds) refl
+
+-- That number is the number unchanged of the partitions of four or more taxa.
+pub count-saved : (n : ℕ) (t u ys : List ℕ)
+    → savedOf n ys (distances n t u ys) ≡ unchanged n t u (scored n ys)
+count-saved = saved-unchanged
+
+-- A partition of fewer than four taxa has the distance 0 for any two valid
+-- tables of the same n.
+pub few-unchanged : (n : ℕ) (t u : List ℕ) (y : ℕ) → Valid n t → Valid n u
+    → y < 2 ^ n → size n y < 4 → dist n t u y ≡ 0
+few-unchanged n t u y first second bound few =
+    few-same n y bound few t u first second
+
+-- So the number unchanged is the number saved and the number of all partitions
+-- of fewer than four taxa.
+pub saved-and-few : (n : ℕ) (t u ys : List ℕ) → Valid n t → Valid n u
+    → each (λ y. ltb y (2 ^ n)) ys ≡ true
+    → unchanged n t u ys
+    ≡ savedOf n ys (distances n t u ys) + unscored n ys
+saved-and-few n t u ys first second right =
+    others-unchanged n t u ys first second right
+    ∙ ap (λ (k : ℕ). k + unscored n ys) (sym (saved-unchanged n t u ys))
 
 -- The steps in order, with the program's memory, write the listing of the
 -- whole job as defined.

@@ -432,6 +432,29 @@ fn largest() {
     run(61, b"64 taxa, then SPR 0,125", &j, f);
 }
 
+// Partitions of fewer than four taxa, alone and beside others: they are the
+// same and are not saved.
+fn savings() {
+    let mut j = [0u8; 256];
+    let a = tree(&mut j, 6, 18, &S);
+    let b = part(&mut j, a, 0);
+    let c = part(&mut j, b, 32);
+    let e = part(&mut j, c, 9);
+    let f = part(&mut j, e, 21);
+    let g = change(&mut j, f, 1, 4, 3, 5);
+    let h = change(&mut j, g, 2, 0, 7, 0);
+    run(62, b"0, 1, 2 and 3 taxa, an NNI and an SPR", &j, h);
+    let i = part(&mut j, f, 51);
+    let k = change(&mut j, i, 1, 4, 3, 5);
+    run(63, b"0, 1, 2, 3 and 4 taxa, all the same", &j, k);
+    let l = part(&mut j, i, 29);
+    let m = change(&mut j, l, 1, 4, 3, 5);
+    run(64, b"the same and 4 taxa that are changed", &j, m);
+    let n = part(&mut j, f, 29);
+    let o = change(&mut j, n, 1, 4, 3, 5);
+    run(65, b"fewer than 4 taxa and 4 that are changed", &j, o);
+}
+
 // Runs the cases in the order of the stored output.
 fn main() {
     documents();
@@ -444,4 +467,5 @@ fn main() {
     cuts();
     longest();
     largest();
+    savings();
 }

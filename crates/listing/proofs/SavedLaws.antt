@@ -1,36 +1,53 @@
 -- The number saved is counted partition by partition. No more are saved than
--- are the same. The width in which taxa are counted does not matter. Assumes
--- nothing.
-use mathlib.Core.Path.{_≡_, refl, ap₂}
-use mathlib.Core.Bool.{Bool, true, _&&_}
+-- are the same. The width in which taxa are counted does not matter. Of two
+-- trees those saved are those unchanged of four or more taxa, and the others
+-- that are unchanged are all of fewer. Assumes nothing.
+use mathlib.Core.Path.{_≡_, refl, sym, ap, ap₂}
+use mathlib.Core.Bool.{Bool, true, false, not, _&&_, and-true}
 use mathlib.Core.List.{List, [], _∷_}
 use Prim.Native.Nat.{ℕ, _+_, _^_, _≤_, _<_, zero-le}
 use native.Mathlib.Nat.{add-le-add}
 use native.Mathlib.Omega.{arith}
 use native.Mathlib.Numerals.{add-one}
-use lib.Dec.{eqb, ltb}
+use lib.Dec.{eqb, ltb, leb}
 use lib.ListN.{length, drop, getD}
 use lib.Seq.{drop-cons, drop-length}
-use borrow.Author.Tests.{ltb-true}
-use Rattle.taxa.specs.Sets.{tally}
-use Rattle.taxa.proofs.Bools.{and-left, and-right}
-use Rattle.taxa.proofs.Sizes.{tally-le}
+use borrow.Author.Tests.{ltb-true, leb-false, ne-eqb, eq-eqb}
+use Rattle.taxa.specs.Sets.{pick, tally, size}
+use Rattle.taxa.proofs.Bools.{and-left, and-right, and-false-r}
+use Rattle.taxa.proofs.Sets.{has-below}
+use Rattle.taxa.proofs.Sizes.{tally-le, size-wide}
+use Rattle.tree.specs.Tree.{Valid}
+use Rattle.tree.specs.Splits.{dist, distancesBy, distances, unchanged}
 use Rattle.tree.specs.Refusals.{each}
+use Rattle.tree.proofs.FewTaxa.{few-same}
 use Rattle.rules.specs.Each.{zeros}
 use Rattle.rules.proofs.Judging.{zeros-le}
-use Rattle.listing.specs.Saved.{countsAsSaved, savedOf}
+use Rattle.listing.specs.Saved.{isScored, countsAsSaved, savedOf, scored, unscored}
 
 -- ---- one partition
+pub changed-not : (n y d : ℕ) → (d ≡ 0 → ⊥) → false ≡ countsAsSaved n y d
+unfolding countsAsSaved
+changed-not n y d h =
+    sym (ap (λ (b : Bool). b && isScored n y) (ne-eqb d 0 h))
+
+pub same-counted : (n y d : ℕ) → d ≡ 0
+    → leb 4 (size n y) ≡ countsAsSaved n y d
+unfolding countsAsSaved isScored
+same-counted n y d h =
+    sym (ap (λ (b : Bool). b && leb 4 (size n y)) (eq-eqb d 0 h))
+
 -- what counts as saved is the same
 counted-same : (n y d : ℕ) → countsAsSaved n y d ≡ true → eqb d 0 ≡ true
 unfolding countsAsSaved
-counted-same n y d h = h
+counted-same n y d h = and-left (eqb d 0) (isScored n y) h
 
 -- the taxa of y are below n, so it may be counted in any width from n on
 counted-wide : (n w y d : ℕ) → n ≤ w → y < 2 ^ n
     → countsAsSaved w y d ≡ countsAsSaved n y d
-unfolding countsAsSaved
-counted-wide n w y d h bound = refl
+unfolding countsAsSaved isScored
+counted-wide n w y d h bound =
+    rw (size-wide n w y h (λ i p. has-below n y i bound p))
 
 -- ---- a list of partitions
 -- no more are saved than are the same
@@ -73,3 +90,46 @@ module _ (n : ℕ) (ys ds : List ℕ) (i : ℕ) (even : length ys ≡ length ds)
       → savedOf n (drop i ys) (drop i ds) ≡ 0
   unfolding savedOf
   saved-end l m = let e : i ≡ length ys = omega arith in rw (e, drop-length)
+
+-- ---- the distances of two trees
+-- those saved are those unchanged of the partitions that are scored
+pub saved-unchanged : (n : ℕ) (t u ys : List ℕ)
+    → savedOf n ys (distances n t u ys) ≡ unchanged n t u (scored n ys)
+unfolding savedOf countsAsSaved distancesBy scored unchanged
+saved-unchanged n t u [] = refl
+saved-unchanged n t u (y ∷ ys) = go (saved-unchanged n t u ys) (isScored n y)
+  where
+    go : savedOf n ys (distances n t u ys) ≡ unchanged n t u (scored n ys)
+        → (b : Bool)
+        → tally (eqb (dist n t u y) 0 && b) + savedOf n ys (distances n t u ys)
+        ≡ unchanged n t u (pick b (y ∷ scored n ys) (scored n ys))
+    go ih true = rw (and-true (eqb (dist n t u y) 0), ih)
+    go ih false = rw (and-false-r (eqb (dist n t u y) 0)) (omega (arith, ih))
+
+-- and the others that are unchanged are all that are not scored
+pub others-unchanged : (n : ℕ) (t u ys : List ℕ) → Valid n t → Valid n u
+    → each (λ y. ltb y (2 ^ n)) ys ≡ true
+    → unchanged n t u ys ≡ unchanged n t u (scored n ys) + unscored n ys
+unfolding unchanged scored unscored isScored each
+others-unchanged n t u [] first second right = omega arith
+others-unchanged n t u (y ∷ ys) first second right =
+    go (others-unchanged n t u ys first second (and-right p q right))
+    (leb 4 (size n y)) refl
+  where
+    p : Bool
+    p = ltb y (2 ^ n)
+
+    q : Bool
+    q = each (λ z. ltb z (2 ^ n)) ys
+
+    go : unchanged n t u ys ≡ unchanged n t u (scored n ys) + unscored n ys
+        → (b : Bool) → leb 4 (size n y) ≡ b
+        → tally (eqb (dist n t u y) 0) + unchanged n t u ys
+        ≡ unchanged n t u (pick b (y ∷ scored n ys) (scored n ys))
+        + (tally (not b) + unscored n ys)
+    go ih true e = omega (arith, ih)
+    go ih false e =
+        let bound = ltb-true y (2 ^ n) (and-left p q right) in
+        let few : size n y < 4 = leb-false 4 (size n y) e in
+        let same = few-same n y bound few t u first second in
+        rw (eq-eqb (dist n t u y) 0 same) (omega (arith, ih))

@@ -28,11 +28,18 @@ pub enum Lines {
     Refused(Refusal),
 }
 
-// Whether a partition counts as saved, where its distance is d: it is the same.
+// The fewest taxa with which a partition is scored.
+const FEWEST: usize = 4;
+
+// Whether a partition counts as saved, where its distance is d: it is the same
+// and is scored.
 fn counts_as_saved(y: u64, d: u64) -> bool
     ensures { λ r. ⌜ r ≡ countsAsSaved most y d ⌝ }
 {
-    d == 0
+    if d != 0 {
+        return false;
+    }
+    taxa::size(y) >= FEWEST
 }
 
 // How many of the partitions count as saved, a distance for each.

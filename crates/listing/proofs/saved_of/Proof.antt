@@ -1,13 +1,14 @@
 -- `listing::saved_of` meets its contract. The loop's invariant: r and those
--- saved from place i on are all. Assumes nothing.
+-- saved from place i on are all; r is no more than i. Assumes nothing.
 use mathlib.Core.Path.{_≡_, ap}
 use Prim.Native.Nat.{_+_, _≤_, _-_}
 use native.Mathlib.Omega.{arith}
 use lib.ListN.{length, drop}
 use Rattle.taxa.specs.Most.{most}
 use Rattle.taxa.specs.Sets.{tally}
+use Rattle.taxa.proofs.Sizes.{tally-one}
 use Rattle.listing.specs.Saved.{savedOf}
-use Rattle.listing.proofs.SavedLaws.{saved-le, saved-rest, saved-end}
+use Rattle.listing.proofs.SavedLaws.{saved-rest, saved-end}
 use borrow.Author.Needs.{needs}
 use Rattle.listing.proofs.saved_of.Statement.{statement}
 use Rattle.listing.proofs.saved_of.Tie as tie
@@ -15,13 +16,14 @@ use Rattle.listing.proofs.saved_of.Tie as tie
 abbrev Inv-loop : tie.InvT-loop
 Inv-loop ys ds r₀ i₀ r i =
     (i ≤ length ds)
+    × (r ≤ i)
     × (r + savedOf most (drop i ys) (drop i ds) ≡ savedOf most ys ds)
 
 abbrev μ-loop : tie.MeasureT-loop
 μ-loop ys ds r₀ i₀ r i = length ds - i
 
 loop-holds : tie.Need-loop-holds Inv-loop μ-loop
-loop-holds c = (search needs, omega arith)
+loop-holds c = (search needs, search needs, omega arith)
 
 mul-counts-as-saved : tie.Need-mul-counts-as-saved Inv-loop μ-loop
 mul-counts-as-saved c = search needs
@@ -43,13 +45,11 @@ cast-r c = search needs
 
 add-r : tie.Need-add-r Inv-loop μ-loop
 add-r c =
-    let st = c .before .before .before .before .before .before .before in
-    let at = c .before .before .before .before .loop in
     omega (
       arith,
-      ap tally (c .counts-as-saved .ensures),
-      saved-rest most (st .args .ys .now) (st .args .ds .now) (at .i) (st .pre) (c .before .before .before .loop-test .taken),
-      saved-le most (st .args .ys .now) (st .args .ds .now),
+      c .before .before .before .before .loop .inv .1,
+      c .before .before .before .loop-test .taken,
+      tally-one (c .counts-as-saved .result),
     )
 
 add-i : tie.Need-add-i Inv-loop μ-loop
@@ -63,10 +63,11 @@ loop-again c =
     let st = c .before .before .before .before .before .before .before in
     let at = c .before .before .before .before .loop in (
       search needs,
+      omega (arith, at .inv .1, tally-one (c .counts-as-saved .result)),
       omega (
         arith,
         ap tally (c .counts-as-saved .ensures),
-        at .inv .1,
+        at .inv .2,
         saved-rest most (st .args .ys .now) (st .args .ds .now) (at .i) (st .pre) (c .before .before .before .loop-test .taken),
       ),
     )
@@ -77,7 +78,7 @@ returns c =
     let at = c .before .loop in
     omega (
       arith,
-      at .inv .1,
+      at .inv .2,
       saved-end most (st .args .ys .now) (st .args .ds .now) (at .i) (st .pre) (at .inv .0) (search needs),
     )
 
