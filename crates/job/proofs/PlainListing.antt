@@ -6,8 +6,6 @@ use Prim.Native.Nat.{ℕ, zero, suc, _+_}
 use lib.Dec.{ltb}
 use lib.ListN.{length}
 use Rattle.taxa.specs.Sets.{pick}
-use Rattle.tree.specs.Splits.{distances}
-use Rattle.moves.specs.Moves.{moved}
 use Rattle.text.specs.Lines.{refusedLine}
 use Rattle.text.specs.Plain.{Plain, none}
 use Rattle.text.proofs.PlainLaws.{end-plain, refused-plain, plain-append}
@@ -26,7 +24,7 @@ step-plain job k k′ ls h = go (turn job k k′ ls h)
     go (read-taxa n a c b e l) = empty l
     go (read-table t a c p e l) = empty l
     go (read-partition y a b few c r e l) = empty l
-    go (read-move m a b c p e l) = subst Plain (sym l) (move-plain (k .moves + 1) (distances (k .taxa) (k .table) (moved (k .taxa) (k .table) m) (k .parts)) _)
+    go (read-move m a b c p e l) = subst Plain (sym l) (move-plain (k .moves + 1) _ _)
 
 -- From what is known on, the lines are plain.
 plain-from : (job : List ℕ) (f : ℕ) (k : Known) → Plain (listingFrom f job k)

@@ -153,7 +153,8 @@ move-lines-few n t u ys k a b hk few h =
       lines-length k ds s (zeros ds) refl,
       verdicts-few n t u k 1 ys a b hk (omega (arith, few)) h,
       distances-length n t u ys,
-      saved-few k s (zeros ds) (length ds) hk (omega (arith, few, saved-le n ys ds, distances-length n t u ys)),
+      saved-few k s (zeros ds) (length ds) hk
+          (omega (arith, few, saved-le n ys ds, distances-length n t u ys)),
     )
 
 -- So a step's lines fit memory for one move's.

@@ -121,7 +121,8 @@ module _
         pub last-then : {part : List ℕ} {k : ℕ}
             → (k ≡ length end) × (part ≡ putFirst end (take (length o - e) (drop e o)))
             → (e + k ≡ length (linesWith m ds s))
-            × (take e o ++ (part ++ drop (length o - e) (drop e o)) ≡ putFirst (linesWith m ds s) o₀)
+            × (take e o ++ (part ++ drop (length o - e) (drop e o))
+            ≡ putFirst (linesWith m ds s) o₀)
         last-then q =
             let p = put-then o₀ (verdictLines m 1 ds) o e h w end last-after q in
             let all = lines-are m ds s same counted in (

@@ -20,7 +20,9 @@ use Rattle.fits.specs.Bytes.{fitSaid}
 use Rattle.text.specs.Lines.{placed}
 use Rattle.listing.specs.declared.Lines.{Lines}
 use Rattle.listing.specs.Saved.{savedOf}
-use Rattle.listing.specs.Listing.{linesWith, moveLines, linesOf, linesSaid, linesSays, placeAfter, tableThen, outThen, Puts, Lists}
+use Rattle.listing.specs.Listing.{linesWith, moveLines, linesOf, linesSaid}
+use Rattle.listing.specs.Listing.{linesSays, placeAfter, tableThen, outThen}
+use Rattle.listing.specs.Listing.{Puts, Lists}
 
 module _ (n : ℕ) (t ys : List ℕ) (m : Move) (k : ℕ) (out : List ℕ) (place : ℕ) where
   abbrev ls : List ℕ
@@ -70,8 +72,9 @@ module _ (n : ℕ) (t ys : List ℕ) (m : Move) (k : ℕ) (out : List ℕ) (plac
         lists-put ds s e c p =
             let lines : linesWith k ds s ≡ ls
             = ap (linesWith k ds) c ∙ ap (moveLines n k ys) e in
-            let w : judged (roomChecks (place + length (linesWith k ds s)) (length out)) (linesWith k ds s) ≡ said
-            = ap (λ (l : List ℕ). judged (roomChecks (place + length l) (length out)) l) lines ∙ sym past-10 in
+            let fitted : List ℕ → Said (List ℕ)
+            = λ l. judged (roomChecks (place + length l) (length out)) l in
+            let w : fitted (linesWith k ds s) ≡ said = ap fitted lines ∙ sym past-10 in
             record {
               says = p .says ∙ ap (placeAfter place) w;
               table = p .table ∙ ap (λ (x : Said (List ℕ)). tableThen x (moved n t m) t) w;

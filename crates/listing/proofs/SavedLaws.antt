@@ -51,7 +51,7 @@ counted-wide n w y d h bound =
 
 -- ---- a list of partitions
 -- no more are saved than are the same
-pub saved-le-same : (n : ℕ) (ys ds : List ℕ) → savedOf n ys ds ≤ zeros ds
+saved-le-same : (n : ℕ) (ys ds : List ℕ) → savedOf n ys ds ≤ zeros ds
 unfolding savedOf zeros
 saved-le-same n [] ds = zero-le
 saved-le-same n (y ∷ ys) [] = zero-le

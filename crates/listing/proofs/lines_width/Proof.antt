@@ -19,23 +19,26 @@ saved-width-requires c κs =
 add-result : tie.Need-add-result
 add-result c =
     let st = c .before .before .before in
+    let a = st .args in
     record {
       fits = omega (
         arith,
         c .before .verdicts-width .ensures .1,
         c .saved-width .ensures,
-        saved-few (st .args .m) (st .args .saved) (st .args .same) (length (st .args .ds .now)) (st .fits .m .fits) (st .fits .saved .fits),
+        saved-few (a .m) (a .saved) (a .same) (length (a .ds .now))
+            (st .fits .m .fits) (st .fits .saved .fits),
       );
     }
 
 returns : tie.Need-returns
 returns c =
     let st = c .before .before .before in
+    let a = st .args in
     omega (
       arith,
       c .before .verdicts-width .ensures .0,
       c .saved-width .ensures,
-      lines-length (st .args .m) (st .args .ds .now) (st .args .saved) (st .args .same) (st .pre .1),
+      lines-length (a .m) (a .ds .now) (a .saved) (a .same) (st .pre .1),
     )
 
 pub lines-width-spec : {M : Type 1} → statement M

@@ -19,42 +19,47 @@ slice-aggregate-judge-groups c = search needs
 
 judge-groups-requires : tie.Need-judge-groups-requires
 judge-groups-requires c κs =
-    let st = c .before .before .before .before .before .before .before in (
+    let st = c .before .before .before .before .before .before .before in
+    let a = st .args in (
       st .pre .0,
-      each-of (st .args .n) (st .args .ys .now) (st .pre .1),
-      omega (arith, few-of (st .args .n) (st .args .ys .now) (st .pre .1), length-replicate {A = ℕ} mostPartitions 0),
+      each-of (a .n) (a .ys .now) (st .pre .1),
+      omega (arith, few-of (a .n) (a .ys .now) (st .pre .1), length-replicate {A = ℕ} mostPartitions 0),
     )
 
 array-share-prefix-ds : tie.Need-array-share-prefix-ds
 array-share-prefix-ds c =
     let st = c .before .before .before .before .before .before .before .before .before in
-    let u = moved (st .args .n) (st .args .t .now) (moveOf (st .args .m)) in
-    found-within (st .args .n) (st .args .t .now) u (st .args .ys .now) (c .before .judge-groups .ensures)
+    let a = st .args in
+    let u = moved (a .n) (a .t .now) (moveOf (a .m)) in
+    found-within (a .n) (a .t .now) u (a .ys .now) (c .before .judge-groups .ensures)
 
 slice-aggregate-found : tie.Need-slice-aggregate-found
 slice-aggregate-found c =
     let st = c .before .before .before .before .before .before .before .before .before .before in
-    let u = moved (st .args .n) (st .args .t .now) (moveOf (st .args .m)) in
-    sym (found-length (st .args .n) (st .args .t .now) u (st .args .ys .now) (c .before .before .judge-groups .ensures))
+    let a = st .args in
+    let u = moved (a .n) (a .t .now) (moveOf (a .m)) in
+    sym (found-length (a .n) (a .t .now) u (a .ys .now) (c .before .before .judge-groups .ensures))
 
 saved-of-requires : tie.Need-saved-of-requires
 saved-of-requires c κs =
     let st = c .before .before .before .before .before .before .before .before .before .before in
-    let u = moved (st .args .n) (st .args .t .now) (moveOf (st .args .m)) in
-    sym (found-length (st .args .n) (st .args .t .now) u (st .args .ys .now) (c .before .before .judge-groups .ensures))
+    let a = st .args in
+    let u = moved (a .n) (a .t .now) (moveOf (a .m)) in
+    sym (found-length (a .n) (a .t .now) u (a .ys .now) (c .before .before .judge-groups .ensures))
 
 put-where-room-requires : tie.Need-put-where-room-requires
 put-where-room-requires c κs =
     let st = c .before .before .before .before .before .before .before .before .before .before .before .before .before in
-    let u = moved (st .args .n) (st .args .t .now) (moveOf (st .args .m)) in
+    let a = st .args in
+    let u = moved (a .n) (a .t .now) (moveOf (a .m)) in
     let told = c .before .before .before .before .before .judge-groups .ensures in (
       st .pre .0,
       omega (
         arith,
-        found-length (st .args .n) (st .args .t .now) u (st .args .ys .now) told,
-        few-of (st .args .n) (st .args .ys .now) (st .pre .1),
+        found-length (a .n) (a .t .now) u (a .ys .now) told,
+        few-of (a .n) (a .ys .now) (st .pre .1),
       ),
-      found-same (st .args .n) (st .args .t .now) u (st .args .ys .now) told,
+      found-same (a .n) (a .t .now) u (a .ys .now) told,
     )
 
 same-length : tie.Need-same-length
@@ -66,12 +71,13 @@ same-length-2 c = search needs
 returns : tie.Need-returns
 returns c =
     let st = c .before .before .before .before .before .before .before .before .before .before .before .before .before .before .before .before .before .before in
-    let n = st .args .n in
-    let t = st .args .t .now in
-    let ys = st .args .ys .now in
-    let u = moved n t (moveOf (st .args .m)) in
+    let a = st .args in
+    let n = a .n in
+    let t = a .t .now in
+    let ys = a .ys .now in
+    let u = moved n t (moveOf (a .m)) in
     let wide = saved-wide n most ys _ (st .pre .0 .good .few) (each-of n ys (st .pre .1)) in
-    lists-put n t ys (moveOf (st .args .m)) (st .args .number) (st .args .out .now) (st .args .place)
+    lists-put n t ys (moveOf (a .m)) (a .number) (a .out .now) (a .place)
     (st .pre .0 .good) (st .pre .1) (st .pre .0 .fits) _ _
     (found-are n t u ys (c .before .before .before .before .before .before .before .before .before .before .judge-groups .ensures))
     (c .before .before .before .before .before .before .before .saved-of .ensures ∙ wide) (c .before .before .before .before .put-where-room .ensures)

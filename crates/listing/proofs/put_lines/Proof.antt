@@ -11,20 +11,28 @@ use Rattle.listing.proofs.put_lines.Tie as tie
 put-verdicts-requires : tie.Need-put-verdicts-requires
 put-verdicts-requires c κs =
     let st = c .before .before .before in
-    let after = last-after (st .args .out .now) (st .args .m) (st .args .ds .now) (st .args .saved) (st .args .same) (st .pre .1) (st .pre .2) in
+    let a = st .args in
+    let after = last-after (a .out .now) (a .m) (a .ds .now) (a .saved) (a .same)
+    (st .pre .1) (st .pre .2) in
     (st .pre .0, omega (arith, after))
 
 sub-saved-line : tie.Need-sub-saved-line
 sub-saved-line c =
     let st = c .before .before .before .before .before .before in
+    let a = st .args in
     let e = c .before .before .put-verdicts in
-    omega (arith, last-room (st .args .out .now) (st .args .m) (st .args .ds .now) (st .args .saved) (st .args .same) (st .pre .1) (st .pre .2) _ (e .result) (e .ensures .0) (e .ensures .1))
+    let room = last-room (a .out .now) (a .m) (a .ds .now) (a .saved) (a .same)
+    (st .pre .1) (st .pre .2) _ (e .result) (e .ensures .0) (e .ensures .1) in
+    omega (arith, room)
 
 part-saved-line-start : tie.Need-part-saved-line-start
 part-saved-line-start c =
     let st = c .before .before .before .before .before .before in
+    let a = st .args in
     let e = c .before .before .put-verdicts in
-    omega (arith, last-room (st .args .out .now) (st .args .m) (st .args .ds .now) (st .args .saved) (st .args .same) (st .pre .1) (st .pre .2) _ (e .result) (e .ensures .0) (e .ensures .1))
+    let room = last-room (a .out .now) (a .m) (a .ds .now) (a .saved) (a .same)
+    (st .pre .1) (st .pre .2) _ (e .result) (e .ensures .0) (e .ensures .1) in
+    omega (arith, room)
 
 part-saved-line-end : tie.Need-part-saved-line-end
 part-saved-line-end c = search needs
@@ -32,21 +40,25 @@ part-saved-line-end c = search needs
 saved-line-requires : tie.Need-saved-line-requires
 saved-line-requires c κs =
     let st = c .before .before .before .before .before .before .before in
+    let a = st .args in
     let e = c .before .before .before .put-verdicts in (
-      omega (arith, st .pre .1, zeros-le (st .args .ds .now), st .pre .0),
+      omega (arith, st .pre .1, zeros-le (a .ds .now), st .pre .0),
       st .pre .0,
-      last-part (st .args .out .now) (st .args .m) (st .args .ds .now) (st .args .saved) (st .args .same) (st .pre .1) (st .pre .2) _ (e .result) (e .ensures .0) (e .ensures .1),
+      last-part (a .out .now) (a .m) (a .ds .now) (a .saved) (a .same)
+          (st .pre .1) (st .pre .2) _ (e .result) (e .ensures .0) (e .ensures .1),
     )
 
 add-result : tie.Need-add-result
 add-result c =
     let st = c .before .before .before .before .before .before .before .before .before .before in
+    let a = st .args in
     record {
       fits = omega (
         arith,
         c .before .before .before .before .before .before .put-verdicts .ensures .2,
         c .before .before .saved-line .ensures .0,
-        saved-few (st .args .m) (st .args .saved) (st .args .same) (length (st .args .ds .now)) (st .fits .m .fits) (st .fits .saved .fits),
+        saved-few (a .m) (a .saved) (a .same) (length (a .ds .now))
+            (st .fits .m .fits) (st .fits .saved .fits),
       );
     }
 
@@ -56,8 +68,11 @@ same-length c = search needs
 returns : tie.Need-returns
 returns c =
     let st = c .before .before .before .before .before .before .before .before .before .before in
+    let a = st .args in
     let e = c .before .before .before .before .before .before .put-verdicts in
-    last-then (st .args .out .now) (st .args .m) (st .args .ds .now) (st .args .saved) (st .args .same) (st .pre .1) (st .pre .2) _ (e .result) (e .ensures .0) (e .ensures .1) (c .before .before .saved-line .ensures)
+    last-then (a .out .now) (a .m) (a .ds .now) (a .saved) (a .same)
+    (st .pre .1) (st .pre .2) _ (e .result) (e .ensures .0) (e .ensures .1)
+    (c .before .before .saved-line .ensures)
 
 pub put-lines-spec : {M : Type 1} → statement M
 put-lines-spec =

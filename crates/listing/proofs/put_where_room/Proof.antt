@@ -29,12 +29,13 @@ same-length c = search needs
 returns : tie.Need-returns
 returns c =
     let st = c .before .before .before .before .before .before .before .before .before .before .before .before in
+    let a = st .args in
     let b = c .before .before .before .before .before .has-room in
     let w = c .before .before .before .before .before .before .lines-width in
-    let room = length (st .args .out .now) in
-    puts-11 (linesWith (st .args .number) (st .args .ds .now) (st .args .saved)) (st .args .t .now)
-    (moved (st .args .n) (st .args .t .now) (moveOf (st .args .m))) (st .args .out .now) (st .args .place) (b .result)
-    (b .ensures ∙ ap (λ (z : ℕ). leb (st .args .place + z) room) (w .ensures))
+    let room = length (a .out .now) in
+    puts-11 (linesWith (a .number) (a .ds .now) (a .saved)) (a .t .now)
+    (moved (a .n) (a .t .now) (moveOf (a .m))) (a .out .now) (a .place) (b .result)
+    (b .ensures ∙ ap (λ (z : ℕ). leb (a .place + z) room) (w .ensures))
     (not-true (b .result) (c .if1 .taken)) _ (c .before .before .before .move-where .ensures)
 
 sub-put-lines : tie.Need-sub-put-lines
@@ -42,14 +43,16 @@ sub-put-lines c =
     let st = c .before .before .before .before .before .before .before .before .before .before .before .before in
     let b = c .before .before .before .before .before .has-room in
     let to = st .args .place + c .before .before .before .before .before .before .lines-width .result in
-    omega (arith, leb-true to (length (st .args .out .now)) (sym (b .ensures) ∙ not-false (b .result) (c .if1 .left)))
+    let fits = sym (b .ensures) ∙ not-false (b .result) (c .if1 .left) in
+    omega (arith, leb-true to (length (st .args .out .now)) fits)
 
 part-put-lines-start : tie.Need-part-put-lines-start
 part-put-lines-start c =
     let st = c .before .before .before .before .before .before .before .before .before .before .before .before in
     let b = c .before .before .before .before .before .has-room in
     let to = st .args .place + c .before .before .before .before .before .before .lines-width .result in
-    omega (arith, leb-true to (length (st .args .out .now)) (sym (b .ensures) ∙ not-false (b .result) (c .if1 .left)))
+    let fits = sym (b .ensures) ∙ not-false (b .result) (c .if1 .left) in
+    omega (arith, leb-true to (length (st .args .out .now)) fits)
 
 part-put-lines-end : tie.Need-part-put-lines-end
 part-put-lines-end c = search needs
@@ -57,11 +60,13 @@ part-put-lines-end c = search needs
 put-lines-requires : tie.Need-put-lines-requires
 put-lines-requires c κs =
     let st = c .before .before .before .before .before .before .before .before .before .before .before .before .before in
+    let a = st .args in
     let b = c .before .before .before .before .before .before .has-room in
     let w = c .before .before .before .before .before .before .before .lines-width in
-    let ls = linesWith (st .args .number) (st .args .ds .now) (st .args .saved) in
-    let h : st .args .place + length ls ≤ length (st .args .out .now)
-    = omega (arith, leb-true (st .args .place + w .result) (length (st .args .out .now)) (sym (b .ensures) ∙ not-false (b .result) (c .before .if1 .left)), w .ensures) in
+    let ls = linesWith (a .number) (a .ds .now) (a .saved) in
+    let fits = sym (b .ensures) ∙ not-false (b .result) (c .before .if1 .left) in
+    let h : a .place + length ls ≤ length (a .out .now)
+    = omega (arith, leb-true (a .place + w .result) (length (a .out .now)) fits, w .ensures) in
     (st .pre .1, st .pre .2, search needs)
 
 add-t14 : tie.Need-add-t14
@@ -69,7 +74,9 @@ add-t14 c =
     let st = c .before .before .before .before .before .before .before .before .before .before .before .before .before .before .before .before in
     let b = c .before .before .before .before .before .before .before .before .before .has-room in
     let to = st .args .place + c .before .before .before .before .before .before .before .before .before .before .lines-width .result in
-    record { fits = omega (arith, leb-true to (length (st .args .out .now)) (sym (b .ensures) ∙ not-false (b .result) (c .before .before .before .before .if1 .left)), st .good .1 .1 .1 .1 .1 .1 .1 .1 .1 .0 .0) }
+    let fits = sym (b .ensures) ∙ not-false (b .result) (c .before .before .before .before .if1 .left) in
+    let short = st .good .1 .1 .1 .1 .1 .1 .1 .1 .1 .0 .0 in
+    record { fits = omega (arith, leb-true to (length (st .args .out .now)) fits, short) }
 
 same-length-2 : tie.Need-same-length-2
 same-length-2 c = search needs
@@ -80,17 +87,19 @@ same-length-3 c = search needs
 returns-2 : tie.Need-returns-2
 returns-2 c =
     let st = c .before .before .before .before .before .before .before .before .before .before .before .before .before .before .before .before in
+    let a = st .args in
     let b = c .before .before .before .before .before .before .before .before .before .has-room in
     let w = c .before .before .before .before .before .before .before .before .before .before .lines-width in
-    let room = length (st .args .out .now) in
-    let ls = linesWith (st .args .number) (st .args .ds .now) (st .args .saved) in
+    let room = length (a .out .now) in
+    let ls = linesWith (a .number) (a .ds .now) (a .saved) in
     let fits = not-false (b .result) (c .before .before .before .before .if1 .left) in
-    let h : st .args .place + length ls ≤ room
-    = omega (arith, leb-true (st .args .place + w .result) room (sym (b .ensures) ∙ fits), w .ensures) in
-    puts-done ls (st .args .t .now) (moved (st .args .n) (st .args .t .now) (moveOf (st .args .m))) (st .args .out .now) (st .args .place) (b .result)
-    (b .ensures ∙ ap (λ (z : ℕ). leb (st .args .place + z) room) (w .ensures)) fits _ _ _
-    (ap (λ (z : ℕ). st .args .place + z) (w .ensures)) (c .before .before .before .before .before .before .before .move-where .ensures)
-    (back (st .args .out .now) (st .args .place) ls h (c .before .before .put-lines .ensures) .1)
+    let h : a .place + length ls ≤ room
+    = omega (arith, leb-true (a .place + w .result) room (sym (b .ensures) ∙ fits), w .ensures) in
+    puts-done ls (a .t .now) (moved (a .n) (a .t .now) (moveOf (a .m)))
+    (a .out .now) (a .place) (b .result)
+    (b .ensures ∙ ap (λ (z : ℕ). leb (a .place + z) room) (w .ensures)) fits _ _ _
+    (ap (λ (z : ℕ). a .place + z) (w .ensures)) (c .before .before .before .before .before .before .before .move-where .ensures)
+    (back (a .out .now) (a .place) ls h (c .before .before .put-lines .ensures) .1)
 
 pub put-where-room-spec : {M : Type 1} → statement M
 put-where-room-spec =
