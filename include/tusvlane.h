@@ -160,8 +160,8 @@ uint32_t tusvlane_apply_move(size_t n, uint8_t *TUSVLANE_LENT table,
 /* Writes for each partition on the list, in order, the distance that the move
  * makes over it, to the start of `out`. The tree is not moved. `value` is how
  * many of the distances are 0: these partitions are the same after the move.
- * A partition of fewer than four taxa always is; nobody scores it, and the
- * lines of tusvlane_list_move do not count it as saved.
+ * A partition of fewer than four taxa always is. Nobody scores it, so
+ * tusvlane_list_move does not count it as saved.
  * Refusals 1 to 11. */
 tusvlane_answer tusvlane_judge_move(size_t n, const uint8_t *table,
                                     size_t table_bytes,
@@ -180,8 +180,8 @@ tusvlane_answer tusvlane_judge_one(size_t n, const uint8_t *table,
 /* Makes the move, and writes its lines under the move number `number` into
  * `out` from `place` onward. `value` is the place after the lines. The last
  * line says how many partitions are saved: those that are the same and have
- * four or more taxa. The terrace class after it is the share of all partitions
- * that are the same.
+ * four or more taxa. The terrace class after it says which share of all
+ * partitions is the same.
  * Refusals 1 to 11; 11 when the lines do not all fit or the place is past the
  * end, and then the tree has not moved either. */
 tusvlane_answer tusvlane_list_move(size_t n, uint8_t *TUSVLANE_LENT table,

@@ -43,7 +43,7 @@ use Rattle.judge.proofs.SaidLaws.{applies-one, judges-one, verdict-one}
 use Rattle.text.specs.Lines.{savedLine}
 use Rattle.text.specs.Plain.{Plain}
 use Rattle.listing.specs.Listing as listing
-use Rattle.listing.specs.Saved.{savedOf, scored, unscored}
+use Rattle.listing.specs.Saved.{savedOf, ofFourOrMore, howManyFewer}
 use Rattle.listing.specs.Listing.{verdictLines, moveLines, linesSaid}
 use Rattle.listing.specs.Listing.{placeAfter, Lists}
 use Rattle.listing.specs.declared.Lines.{Lines}
@@ -299,7 +299,7 @@ saved-counted n m ys ds = lines-are m ds (savedOf n ys ds) (zeros ds) refl
 
 -- That number is the number unchanged of the partitions of four or more taxa.
 pub count-saved : (n : ℕ) (t u ys : List ℕ)
-    → savedOf n ys (distances n t u ys) ≡ unchanged n t u (scored n ys)
+    → savedOf n ys (distances n t u ys) ≡ unchanged n t u (ofFourOrMore n ys)
 count-saved = saved-unchanged
 
 -- A partition of fewer than four taxa has the distance 0 for any two valid
@@ -309,15 +309,15 @@ pub few-unchanged : (n : ℕ) (t u : List ℕ) (y : ℕ) → Valid n t → Valid
 few-unchanged n t u y first second bound few =
     few-same n y bound few t u first second
 
--- So the number unchanged is the number saved and the number of all partitions
--- of fewer than four taxa.
+-- So for two valid tables and partitions of the n taxa, the number unchanged
+-- is the number saved plus the number of those of fewer than four taxa.
 pub saved-and-few : (n : ℕ) (t u ys : List ℕ) → Valid n t → Valid n u
     → each (λ y. ltb y (2 ^ n)) ys ≡ true
     → unchanged n t u ys
-    ≡ savedOf n ys (distances n t u ys) + unscored n ys
+    ≡ savedOf n ys (distances n t u ys) + howManyFewer n ys
 saved-and-few n t u ys first second right =
     others-unchanged n t u ys first second right
-    ∙ ap (λ (k : ℕ). k + unscored n ys) (sym (saved-unchanged n t u ys))
+    ∙ ap (λ (k : ℕ). k + howManyFewer n ys) (sym (saved-unchanged n t u ys))
 
 -- The steps in order, with the program's memory, write the listing of the
 -- whole job as defined.
@@ -358,7 +358,8 @@ pub changed-stays : (n : ℕ) (t : List ℕ) (m : Move) (y₁ y₂ : ℕ) → Su
     → dist n t (moved n t m) y₁ ≡ 0
 changed-stays = move-same-mono
 
--- Nor do they raise the number of partitions that are unchanged.
+-- Nor do they raise the number of partitions that are unchanged, which the
+-- listing does not print.
 pub unchanged-falls : (n : ℕ) (t : List ℕ) (m : Move) (ys zs : List ℕ)
     → Gains n ys zs
     → unchanged n t (moved n t m) zs ≤ unchanged n t (moved n t m) ys

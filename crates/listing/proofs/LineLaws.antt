@@ -1,4 +1,5 @@
--- The lines of the first partitions, one more, and all. Assumes nothing.
+-- The lines of the first partitions, one more, and all; the saved line after
+-- them; the distances at the start of a lent list. Assumes nothing.
 use mathlib.Core.Path.{_≡_, refl, sym, ap, ap₂, _∙_}
 use mathlib.Core.List.{List, [], _∷_, _++_, append-assoc, append-nil}
 use Prim.Native.Nat.{ℕ, suc, _+_, _-_, _≤_, _<_}
@@ -55,20 +56,6 @@ pub verdicts-none : (m : ℕ) (ds : List ℕ) → verdictLines m 1 (take 0 ds) �
 unfolding verdictLines
 verdicts-none m ds = refl
 
--- the verdict lines and the saved line are all lines of a move
-module _ (m : ℕ) (ds : List ℕ) (s same : ℕ) (counted : same ≡ zeros ds) where
-  abbrev last : List ℕ
-  last = savedLine m s same (length ds)
-
-  pub lines-are : verdictLines m 1 ds ++ last ≡ linesWith m ds s
-  unfolding linesWith
-  lines-are = rw counted
-
-  pub lines-length : length (verdictLines m 1 ds) + length last
-      ≡ length (linesWith m ds s)
-  lines-length =
-      sym (length-append (verdictLines m 1 ds) last) ∙ ap length lines-are
-
 -- ---- lines after lines, at the start of a lent output
 pub put-whole : (xs o : List ℕ) → length xs ≤ length o → length (putFirst xs o) ≡ length o
 put-whole xs o h = ap length (sym (placed-start o xs)) ∙ placed-length o 0 xs (omega (arith, h))
@@ -97,37 +84,44 @@ module _ (o₀ xs o : List ℕ) (e : ℕ) (h : e ≡ length xs) (w : o ≡ putFi
         ∙ placed-start o₀ (xs ++ ds),
   )
 
--- ---- the saved line after the verdict lines
-module _
-    (o₀ : List ℕ) (m : ℕ) (ds : List ℕ) (s same : ℕ) (counted : same ≡ zeros ds)
-    (room : length (linesWith m ds s) ≤ length o₀)
-  where
-    abbrev end : List ℕ
-    end = savedLine m s same (length ds)
+-- ---- the verdict lines and the saved line are all lines of a move
+module _ (m : ℕ) (ds : List ℕ) (s same : ℕ) (counted : same ≡ zeros ds) where
+  abbrev last : List ℕ
+  last = savedLine m s same (length ds)
 
-    pub last-after : length (verdictLines m 1 ds) + length end ≤ length o₀
-    last-after = omega (arith, lines-length m ds s same counted, room)
+  pub lines-are : verdictLines m 1 ds ++ last ≡ linesWith m ds s
+  unfolding linesWith
+  lines-are = rw counted
+
+  pub lines-length : length (verdictLines m 1 ds) + length last
+      ≡ length (linesWith m ds s)
+  lines-length =
+      sym (length-append (verdictLines m 1 ds) last) ∙ ap length lines-are
+
+  -- the saved line after the verdict lines, at the start of a lent output
+  module _ (o₀ : List ℕ) (room : length (linesWith m ds s) ≤ length o₀) where
+    pub last-after : length (verdictLines m 1 ds) + length last ≤ length o₀
+    last-after = omega (arith, lines-length, room)
 
     module _
         (o : List ℕ) (e : ℕ) (h : e ≡ length (verdictLines m 1 ds))
         (w : o ≡ putFirst (verdictLines m 1 ds) o₀)
       where
-        pub last-room : e + length end ≤ length o
-        last-room = put-room o₀ (verdictLines m 1 ds) o e h w end last-after
+        pub last-room : e + length last ≤ length o
+        last-room = put-room o₀ (verdictLines m 1 ds) o e h w last last-after
 
-        pub last-part : length end ≤ length (take (length o - e) (drop e o))
-        last-part = part-room o₀ (verdictLines m 1 ds) o e h w end last-after
+        pub last-part : length last ≤ length (take (length o - e) (drop e o))
+        last-part = part-room o₀ (verdictLines m 1 ds) o e h w last last-after
 
         pub last-then : {part : List ℕ} {k : ℕ}
-            → (k ≡ length end) × (part ≡ putFirst end (take (length o - e) (drop e o)))
+            → (k ≡ length last) × (part ≡ putFirst last (take (length o - e) (drop e o)))
             → (e + k ≡ length (linesWith m ds s))
             × (take e o ++ (part ++ drop (length o - e) (drop e o))
             ≡ putFirst (linesWith m ds s) o₀)
         last-then q =
-            let p = put-then o₀ (verdictLines m 1 ds) o e h w end last-after q in
-            let all = lines-are m ds s same counted in (
-              p .0 ∙ ap length all,
-              p .1 ∙ ap (λ (x : List ℕ). putFirst x o₀) all,
+            let p = put-then o₀ (verdictLines m 1 ds) o e h w last last-after q in (
+              p .0 ∙ ap length lines-are,
+              p .1 ∙ ap (λ (x : List ℕ). putFirst x o₀) lines-are,
             )
 
 -- ---- the distances of the partitions ys at the start of a lent list

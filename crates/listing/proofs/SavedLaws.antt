@@ -23,29 +23,31 @@ use Rattle.tree.specs.Refusals.{each}
 use Rattle.tree.proofs.FewTaxa.{few-same}
 use Rattle.rules.specs.Each.{zeros}
 use Rattle.rules.proofs.Judging.{zeros-le}
-use Rattle.listing.specs.Saved.{isScored, countsAsSaved, savedOf, scored, unscored}
+use Rattle.listing.specs.Saved.{fourOrMore, countsAsSaved, savedOf}
+use Rattle.listing.specs.Saved.{ofFourOrMore, howManyFewer}
 
 -- ---- one partition
-pub changed-not : (n y d : ℕ) → (d ≡ 0 → ⊥) → false ≡ countsAsSaved n y d
+pub changed-not-counted : (n y d : ℕ) → (d ≡ 0 → ⊥)
+    → false ≡ countsAsSaved n y d
 unfolding countsAsSaved
-changed-not n y d h =
-    sym (ap (λ (b : Bool). b && isScored n y) (ne-eqb d 0 h))
+changed-not-counted n y d h =
+    sym (ap (λ (b : Bool). b && fourOrMore n y) (ne-eqb d 0 h))
 
-pub same-counted : (n y d : ℕ) → d ≡ 0
+pub same-counted-four : (n y d : ℕ) → d ≡ 0
     → leb 4 (size n y) ≡ countsAsSaved n y d
-unfolding countsAsSaved isScored
-same-counted n y d h =
+unfolding countsAsSaved fourOrMore
+same-counted-four n y d h =
     sym (ap (λ (b : Bool). b && leb 4 (size n y)) (eq-eqb d 0 h))
 
--- what counts as saved is the same
+-- what counts as saved has distance 0
 counted-same : (n y d : ℕ) → countsAsSaved n y d ≡ true → eqb d 0 ≡ true
 unfolding countsAsSaved
-counted-same n y d h = and-left (eqb d 0) (isScored n y) h
+counted-same n y d h = and-left (eqb d 0) (fourOrMore n y) h
 
 -- the taxa of y are below n, so it may be counted in any width from n on
 counted-wide : (n w y d : ℕ) → n ≤ w → y < 2 ^ n
     → countsAsSaved w y d ≡ countsAsSaved n y d
-unfolding countsAsSaved isScored
+unfolding countsAsSaved fourOrMore
 counted-wide n w y d h bound =
     rw (size-wide n w y h (λ i p. has-below n y i bound p))
 
@@ -92,25 +94,29 @@ module _ (n : ℕ) (ys ds : List ℕ) (i : ℕ) (even : length ys ≡ length ds)
   saved-end l m = let e : i ≡ length ys = omega arith in rw (e, drop-length)
 
 -- ---- the distances of two trees
--- those saved are those unchanged of the partitions that are scored
+-- those saved are those unchanged of the partitions of four or more taxa
 pub saved-unchanged : (n : ℕ) (t u ys : List ℕ)
-    → savedOf n ys (distances n t u ys) ≡ unchanged n t u (scored n ys)
-unfolding savedOf countsAsSaved distancesBy scored unchanged
+    → savedOf n ys (distances n t u ys) ≡ unchanged n t u (ofFourOrMore n ys)
+unfolding savedOf countsAsSaved distancesBy ofFourOrMore unchanged
 saved-unchanged n t u [] = refl
-saved-unchanged n t u (y ∷ ys) = go (saved-unchanged n t u ys) (isScored n y)
+saved-unchanged n t u (y ∷ ys) =
+    go (saved-unchanged n t u ys) (fourOrMore n y)
   where
-    go : savedOf n ys (distances n t u ys) ≡ unchanged n t u (scored n ys)
-        → (b : Bool)
+    l : List ℕ
+    l = ofFourOrMore n ys
+
+    go : savedOf n ys (distances n t u ys) ≡ unchanged n t u l → (b : Bool)
         → tally (eqb (dist n t u y) 0 && b) + savedOf n ys (distances n t u ys)
-        ≡ unchanged n t u (pick b (y ∷ scored n ys) (scored n ys))
+        ≡ unchanged n t u (pick b (y ∷ l) l)
     go ih true = rw (and-true (eqb (dist n t u y) 0), ih)
     go ih false = rw (and-false-r (eqb (dist n t u y) 0)) (omega (arith, ih))
 
--- and the others that are unchanged are all that are not scored
+-- and the others that are unchanged are all of fewer
 pub others-unchanged : (n : ℕ) (t u ys : List ℕ) → Valid n t → Valid n u
     → each (λ y. ltb y (2 ^ n)) ys ≡ true
-    → unchanged n t u ys ≡ unchanged n t u (scored n ys) + unscored n ys
-unfolding unchanged scored unscored isScored each
+    → unchanged n t u ys
+    ≡ unchanged n t u (ofFourOrMore n ys) + howManyFewer n ys
+unfolding unchanged ofFourOrMore howManyFewer fourOrMore each
 others-unchanged n t u [] first second right = omega arith
 others-unchanged n t u (y ∷ ys) first second right =
     go (others-unchanged n t u ys first second (and-right p q right))
@@ -122,11 +128,14 @@ others-unchanged n t u (y ∷ ys) first second right =
     q : Bool
     q = each (λ z. ltb z (2 ^ n)) ys
 
-    go : unchanged n t u ys ≡ unchanged n t u (scored n ys) + unscored n ys
+    l : List ℕ
+    l = ofFourOrMore n ys
+
+    go : unchanged n t u ys ≡ unchanged n t u l + howManyFewer n ys
         → (b : Bool) → leb 4 (size n y) ≡ b
         → tally (eqb (dist n t u y) 0) + unchanged n t u ys
-        ≡ unchanged n t u (pick b (y ∷ scored n ys) (scored n ys))
-        + (tally (not b) + unscored n ys)
+        ≡ unchanged n t u (pick b (y ∷ l) l)
+        + (tally (not b) + howManyFewer n ys)
     go ih true e = omega (arith, ih)
     go ih false e =
         let bound = ltb-true y (2 ^ n) (and-left p q right) in

@@ -28,18 +28,19 @@ pub enum Lines {
     Refused(Refusal),
 }
 
-// The fewest taxa with which a partition is scored.
-const FEWEST: usize = 4;
+// The fewest taxa with which a partition is scored: over fewer there is one
+// tree only, so it never changes.
+const FEWEST_SCORED: usize = 4;
 
 // Whether a partition counts as saved, where its distance is d: it is the same
-// and is scored.
+// and has four or more taxa.
 fn counts_as_saved(y: u64, d: u64) -> bool
     ensures { λ r. ⌜ r ≡ countsAsSaved most y d ⌝ }
 {
     if d != 0 {
         return false;
     }
-    taxa::size(y) >= FEWEST
+    taxa::size(y) >= FEWEST_SCORED
 }
 
 // How many of the partitions count as saved, a distance for each.
@@ -71,7 +72,8 @@ fn verdicts_width(m: u64, ds: &[u64]) -> usize
     w
 }
 
-// How many bytes the lines of move m take, where same of the distances are 0.
+// How many bytes the lines of move m take, with the number saved, where same
+// of the distances are 0.
 fn lines_width(m: u64, ds: &[u64], saved: usize, same: usize) -> usize
     requires { ⌜ (length (now ds) ≤ mostPartitions) × (same ≡ zeros (now ds)) ⌝ }
     ensures { λ r. ⌜ r ≡ length (linesWith m (now (ds .entry)) saved) ⌝ }

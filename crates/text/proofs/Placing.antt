@@ -92,8 +92,11 @@ module _ (x k : ℕ) (o : List ℕ) (at : ℕ) {a : ℕ} {p : List ℕ} where
 
 -- ---- the lines
 module _ (o : List ℕ) {a b c : ℕ} {p q r : List ℕ} where
-  pub saved-made : (m n same k : ℕ) {e f g : ℕ} {s t u : List ℕ} → length (savedLine m n same k) ≤ length o
-      → First o (decimal m) a p → Then a p savedWord b q → Then b q (decimal n) c r → Then c r blank e s → Then e s (className same k) f t → Then f t feed g u → First o (savedLine m n same k) g u
+  pub saved-made : (m n same k : ℕ) {e f g : ℕ} {s t u : List ℕ}
+      → length (savedLine m n same k) ≤ length o
+      → First o (decimal m) a p → Then a p savedWord b q → Then b q (decimal n) c r
+      → Then c r blank e s → Then e s (className same k) f t → Then f t feed g u
+      → First o (savedLine m n same k) g u
   unfolding savedLine
   saved-made m n same k room h1 h2 h3 h4 h5 h6 =
       let ds1 = decimal m in

@@ -100,7 +100,8 @@ unfolding savedLine savedWord shown
 saved-line m s c k =
     let w = decimal m ++ savedWord ++ decimal s ++ blank in
     let h = shown-append (decimal m ++ savedWord ++ decimal s) blank (then-decimal (decimal m ++ savedWord) s (shown-append (decimal m) savedWord (decimal-shown m) refl)) refl in
-    subst Line (sym (append-assoc w (className c k) feed)) (line-after w (className c k ++ feed) h (class-line c k))
+    subst Line (sym (append-assoc w (className c k) feed))
+    (line-after w (className c k ++ feed) h (class-line c k))
 
 end-line : (m : ℕ) → Line (endLine m)
 unfolding endLine endWord shown

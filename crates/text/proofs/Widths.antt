@@ -174,12 +174,14 @@ module _ (m p d : ℕ) where
       (either (eqb d 0))
 
 module _ (m s c k : ℕ) where
-  pub saved-bytes : length (savedLine m s c k) ≡ length (decimal m) + 7 + length (decimal s) + 1 + length (className c k) + 1
+  pub saved-bytes : length (savedLine m s c k)
+      ≡ length (decimal m) + 7 + length (decimal s) + 1 + length (className c k) + 1
   unfolding savedLine savedWord
   saved-bytes = simp length-append (omega arith)
 
   pub saved-few : m < 2 ^ 64 → s < 2 ^ 64 → length (savedLine m s c k) ≤ 60
-  saved-few hm hs = omega (arith, saved-bytes, decimal-few m hm, decimal-few s hs, class-few c k)
+  saved-few hm hs =
+      omega (arith, saved-bytes, decimal-few m hm, decimal-few s hs, class-few c k)
 
 pub end-bytes : (m : ℕ) → length (endLine m) ≡ 4 + length (decimal m) + 1
 unfolding endLine endWord

@@ -42,7 +42,8 @@ refusedWord = 114 ∷ 101 ∷ 102 ∷ 117 ∷ 115 ∷ 101 ∷ 100 ∷ 32 ∷ []
 unfoldable pub atWord : List ℕ
 atWord = 32 ∷ 97 ∷ 116 ∷ 32 ∷ []
 
--- ---- the terrace class
+-- ---- the terrace class of s of k partitions, s being the number that are the
+-- same
 unfoldable pub noneWord : List ℕ
 noneWord = 110 ∷ 111 ∷ 110 ∷ 101 ∷ []
 

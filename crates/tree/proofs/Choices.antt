@@ -11,7 +11,7 @@ use lib.Dec.{eqb}
 use lib.Bits.{bitAnd}
 use borrow.Author.Tests.{eqb-true, eqb-false, eq-eqb}
 use Rattle.taxa.specs.Sets.{pick, has, less, some, Sub}
-use Rattle.taxa.proofs.Bools.{either, and-left, and-right, and-both, and-true-l, and-when, and-when′, or-cases, _⊕_, xor-cancel, xor-twice, xor-assoc, xor-same}
+use Rattle.taxa.proofs.Bools.{either, and-left, and-right, and-both, and-true-l, and-when, and-when′, or-cases, _⊕_, xor-cancel, xor-assoc, xor-same}
 use Rattle.taxa.proofs.Sets.{has-and, has-less, ext, some-mono}
 use Rattle.tree.specs.Tree.{rows}
 use Rattle.tree.specs.Lists.{insert, mem}
@@ -37,13 +37,6 @@ has-side : (b : Bool) (y s i : ℕ)
     → has (pick b (less y s) (bitAnd s y)) i ≡ (has y i && (b ⊕ has s i))
 has-side true y s i = has-less y s i
 has-side false y s i = has-and s y i ∙ and-comm (has s i) (has y i)
-
--- a side of y agrees on it with the set that made it, or disagrees on all of it
-pub like-side : (b : Bool) (y s : ℕ)
-    → Like y b s (pick b (less y s) (bitAnd s y))
-like-side b y s i p =
-    sym (xor-twice b (has s i)) ∙ ap (λ (q : Bool). b ⊕ q)
-    (sym (has-side b y s i ∙ and-true-l (has y i) (b ⊕ has s i) p))
 
 -- sets that agree on y make the same two sides; sets that disagree on all of
 -- it, the same two exchanged

@@ -15,21 +15,22 @@ use Rattle.taxa.specs.Sets.{pick, less, some, size, lowest, Sub}
 use Rattle.taxa.proofs.Bools.{either, and-left, and-right}
 use Rattle.taxa.proofs.Sets.{sub-inside, sub-less, sub-lt}
 use Rattle.taxa.proofs.Sets.{some-lowest, lowest-lt}
-use Rattle.taxa.proofs.Sizes.{size-cut, size-one}
+use Rattle.taxa.proofs.Sizes.{sub-refl, size-cut, size-one}
 use Rattle.tree.specs.Tree.{Valid}
 use Rattle.tree.specs.Lists.{mem}
-use Rattle.tree.specs.Splits.{side, meets, flips, split, splits}
+use Rattle.tree.specs.Splits.{side, meets, splitBy, flips, split, splits}
 use Rattle.tree.specs.Splits.{distBy, dist}
 use Rattle.tree.proofs.Lists.{lacks-none}
-use Rattle.tree.proofs.Choices.{like-side, out-of}
-use Rattle.tree.proofs.SplitLaws.{split-eq, meets-some}
+use Rattle.tree.proofs.Choices.{twice-by, out-of}
+use Rattle.tree.proofs.SideWritten.{flips-fair}
+use Rattle.tree.proofs.SplitLaws.{kept-out}
 use Rattle.tree.proofs.Growth.{leaf-in}
 
 module _ (n y : ℕ) (bound : y < 2 ^ n) (few : size n y < 4) where
   -- a split that is kept is that of one taxon
   single : (s : ℕ) → meets y s ≡ true
       → (i : ℕ) × (i < n) × (split n y s ≡ split n y (2 ^ i))
-  unfolding meets
+  unfolding meets splitBy
   single s kept = go (either (ltb (size n (bitAnd s y)) 2))
     where
       of-side : (b : Bool) (x : ℕ) → x ≡ pick b (less y s) (bitAnd s y)
@@ -40,7 +41,8 @@ module _ (n y : ℕ) (bound : y < 2 ^ n) (few : size n y < 4) where
           let own = size-one n x (lowest n x) low (some-lowest n x low there) one in (
             lowest n x,
             lowest-lt n x low there,
-            split-eq n y s x bound b (rw e (like-side b y s)) ∙ ap (split n y) own,
+            sym (twice-by flips (λ m z r. b) flips-fair n y y (sub-refl y) bound s)
+                ∙ ap (split n y) (sym e ∙ own),
           )
 
       go : (ltb (size n (bitAnd s y)) 2 ≡ true) ⊎ (ltb (size n (bitAnd s y)) 2 ≡ false)
@@ -61,8 +63,7 @@ module _ (n y : ℕ) (bound : y < 2 ^ n) (few : size n y < 4) where
       let w = out-of flips n t y x h in
       let v = single (side n t (w .0)) (w .2) in
       let e : x ≡ split n y (2 ^ v .0) = w .3 ∙ v .2 in
-      let kept : some x ≡ true
-      = ap some (w .3) ∙ meets-some n y (side n t (w .0)) (w .2) in
+      let kept = kept-out n t y bound x h .2 in
       ap (λ (z : ℕ). mem z (splits n u y)) e
       ∙ leaf-in n u y (v .0) valid bound (v .1) (ap some (sym e) ∙ kept)
 

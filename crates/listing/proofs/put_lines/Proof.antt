@@ -12,8 +12,8 @@ put-verdicts-requires : tie.Need-put-verdicts-requires
 put-verdicts-requires c κs =
     let st = c .before .before .before in
     let a = st .args in
-    let after = last-after (a .out .now) (a .m) (a .ds .now) (a .saved) (a .same)
-    (st .pre .1) (st .pre .2) in
+    let after = last-after (a .m) (a .ds .now) (a .saved) (a .same) (st .pre .1)
+    (a .out .now) (st .pre .2) in
     (st .pre .0, omega (arith, after))
 
 sub-saved-line : tie.Need-sub-saved-line
@@ -21,8 +21,8 @@ sub-saved-line c =
     let st = c .before .before .before .before .before .before in
     let a = st .args in
     let e = c .before .before .put-verdicts in
-    let room = last-room (a .out .now) (a .m) (a .ds .now) (a .saved) (a .same)
-    (st .pre .1) (st .pre .2) _ (e .result) (e .ensures .0) (e .ensures .1) in
+    let room = last-room (a .m) (a .ds .now) (a .saved) (a .same) (st .pre .1)
+    (a .out .now) (st .pre .2) _ (e .result) (e .ensures .0) (e .ensures .1) in
     omega (arith, room)
 
 part-saved-line-start : tie.Need-part-saved-line-start
@@ -30,8 +30,8 @@ part-saved-line-start c =
     let st = c .before .before .before .before .before .before in
     let a = st .args in
     let e = c .before .before .put-verdicts in
-    let room = last-room (a .out .now) (a .m) (a .ds .now) (a .saved) (a .same)
-    (st .pre .1) (st .pre .2) _ (e .result) (e .ensures .0) (e .ensures .1) in
+    let room = last-room (a .m) (a .ds .now) (a .saved) (a .same) (st .pre .1)
+    (a .out .now) (st .pre .2) _ (e .result) (e .ensures .0) (e .ensures .1) in
     omega (arith, room)
 
 part-saved-line-end : tie.Need-part-saved-line-end
@@ -44,8 +44,8 @@ saved-line-requires c κs =
     let e = c .before .before .before .put-verdicts in (
       omega (arith, st .pre .1, zeros-le (a .ds .now), st .pre .0),
       st .pre .0,
-      last-part (a .out .now) (a .m) (a .ds .now) (a .saved) (a .same)
-          (st .pre .1) (st .pre .2) _ (e .result) (e .ensures .0) (e .ensures .1),
+      last-part (a .m) (a .ds .now) (a .saved) (a .same) (st .pre .1)
+          (a .out .now) (st .pre .2) _ (e .result) (e .ensures .0) (e .ensures .1),
     )
 
 add-result : tie.Need-add-result
@@ -70,8 +70,8 @@ returns c =
     let st = c .before .before .before .before .before .before .before .before .before .before in
     let a = st .args in
     let e = c .before .before .before .before .before .before .put-verdicts in
-    last-then (a .out .now) (a .m) (a .ds .now) (a .saved) (a .same)
-    (st .pre .1) (st .pre .2) _ (e .result) (e .ensures .0) (e .ensures .1)
+    last-then (a .m) (a .ds .now) (a .saved) (a .same) (st .pre .1)
+    (a .out .now) (st .pre .2) _ (e .result) (e .ensures .0) (e .ensures .1)
     (c .before .before .saved-line .ensures)
 
 pub put-lines-spec : {M : Type 1} → statement M
