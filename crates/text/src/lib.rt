@@ -153,10 +153,10 @@ fn class_width(s: u64, k: u64) -> usize
     2 + width(class_bin(s, k))
 }
 
-// How many bytes saved_line writes.
+// How many bytes saved_line writes; few, so that a caller can add them.
 pub fn saved_width(m: u64, s: u64, same: u64, k: u64) -> usize
     requires { ⌜ (same ≤ 64) × (k ≤ 64) ⌝ }
-    ensures { λ r. ⌜ r ≡ length (savedLine m s same k) ⌝ }
+    ensures { λ r. ⌜ (r ≡ length (savedLine m s same k)) × (r ≤ 60) ⌝ }
 {
     width(m) + 7 + width(s) + 1 + class_width(same, k) + 1
 }

@@ -1,8 +1,6 @@
 -- `listing::lines_width` meets its contract. Assumes nothing.
 use native.Mathlib.Omega.{arith}
-use lib.ListN.{length}
 use Rattle.rules.proofs.Judging.{zeros-le}
-use Rattle.text.proofs.Widths.{saved-few}
 use Rattle.listing.proofs.LineLaws.{lines-length}
 use borrow.Author.Needs.{needs}
 use Rattle.listing.proofs.lines_width.Statement.{statement}
@@ -18,17 +16,7 @@ saved-width-requires c κs =
 
 add-result : tie.Need-add-result
 add-result c =
-    let st = c .before .before .before in
-    let a = st .args in
-    record {
-      fits = omega (
-        arith,
-        c .before .verdicts-width .ensures .1,
-        c .saved-width .ensures,
-        saved-few (a .m) (a .saved) (a .same) (length (a .ds .now))
-            (st .fits .m .fits) (st .fits .saved .fits),
-      );
-    }
+    record { fits = omega (arith, c .before .verdicts-width .ensures .1, c .saved-width .ensures .1) }
 
 returns : tie.Need-returns
 returns c =
@@ -37,7 +25,7 @@ returns c =
     omega (
       arith,
       c .before .verdicts-width .ensures .0,
-      c .saved-width .ensures,
+      c .saved-width .ensures .0,
       lines-length (a .m) (a .ds .now) (a .saved) (a .same) (st .pre .1),
     )
 
