@@ -3,19 +3,22 @@
 use mathlib.Core.Path.{_≡_, refl, sym, ap, _∙_}
 use mathlib.Core.Logic.{_↔_}
 use mathlib.Core.Bool.{true}
-use mathlib.Core.List.{List, _++_}
+use mathlib.Core.List.{List, [], _++_}
 use Prim.Native.Nat.{ℕ, suc, _+_, _*_, _^_, _≤_, _<_}
 use native.Mathlib.Omega.{arith}
 use lib.Dec.{ltb}
 use lib.ListN.{length}
-use Rattle.taxa.specs.Sets.{size, Sub}
+use Rattle.taxa.specs.Sets.{has, union, inSome, size, Sub}
+use Rattle.taxa.proofs.Unions.{has-union}
 use Rattle.tree.specs.Tree.{rows, Valid}
 use Rattle.tree.specs.Lists.{mem}
 use Rattle.tree.specs.Splits.{holdsLowest, splits, distBy, dist}
 use Rattle.tree.specs.Splits.{distancesBy, distances, unchanged, Gains}
 use Rattle.tree.specs.Refusals.{Said, gives, refuses, written, each}
-use Rattle.tree.specs.Refusals.{Accepted}
-use Rattle.tree.proofs.RefusalLaws.{Pass}
+use Rattle.tree.specs.Refusals.{treeChecks, allSeen, partitionsChecks}
+use Rattle.tree.specs.Refusals.{roomChecks, Accepted}
+use Rattle.tree.proofs.RefusalLaws.{Pass, gives-pass, pass-after}
+use Rattle.tree.proofs.Seen.{seen-in, seen-gains}
 use Rattle.tree.proofs.Monotone.{dist-lowest, distances-lowest, dist-mono}
 use Rattle.tree.proofs.FewTaxa.{few-same}
 use Rattle.table.specs.Says.{numberOf, checkSays}
@@ -44,13 +47,14 @@ use Rattle.text.specs.Lines.{savedLine}
 use Rattle.text.specs.Plain.{Plain}
 use Rattle.listing.specs.Listing as listing
 use Rattle.listing.specs.Saved.{savedOf, ofFourOrMore, howManyFewer}
-use Rattle.listing.specs.Listing.{verdictLines, moveLines, linesSaid}
+use Rattle.listing.specs.Listing.{verdictLines, moveLines, linesOf}
+use Rattle.listing.specs.Listing.{linesSaid}
 use Rattle.listing.specs.Listing.{placeAfter, Lists}
 use Rattle.listing.specs.declared.Lines.{Lines}
 use Rattle.listing.proofs.SavedLaws.{saved-unchanged, others-unchanged}
 use Rattle.listing.proofs.LineLaws.{lines-are}
 use Rattle.listing.proofs.ListsLaws.{lists-one}
-use Rattle.job.specs.Job.{Outcome, next, over, stop}
+use Rattle.job.specs.Job.{Known, Outcome, next, over, stop}
 use Rattle.job.specs.Job as job
 use Rattle.job.specs.Steps.{toldOf, Gives}
 use Rattle.job.specs.Steps as steps
@@ -59,6 +63,7 @@ use Rattle.job.specs.Sound.{Closes}
 use Rattle.job.specs.declared.Stepped.{Stepped}
 use Rattle.job.proofs.PlainListing.{listing-plain}
 use Rattle.job.proofs.StateLaws.{gives-one}
+use Rattle.job.proofs.Turns.{field-seen}
 use Rattle.job.proofs.RunLaws.{run-is-listing, listing-closes}
 use Rattle.grammar.specs.Newick.{IsTree}
 use Rattle.reader.specs.Promises as reader
@@ -319,6 +324,38 @@ saved-and-few n t u ys first second right =
     others-unchanged n t u ys first second right
     ∙ ap (λ (k : ℕ). k + howManyFewer n ys) (sym (saved-unchanged n t u ys))
 
+-- A move is judged, and its lines are written, only where each of the n taxa
+-- is in some partition on the list.
+pub judged-seen : (n : ℕ) (t ys : List ℕ) (m : Move) (room : ℕ) (ds : List ℕ)
+    → judgedSaid n t ys m room ≡ gives ds → (i : ℕ) → i < n
+    → inSome ys i ≡ true
+judged-seen n t ys m room ds h i l =
+    let cs = moveChecks n t m ++ roomChecks (length ys) room in
+    let p = gives-pass (treeChecks n t ++ partitionsChecks n ys ++ cs)
+    (distances n t (moved n t m) ys) ds h in
+    let q = pass-after (treeChecks n t) (partitionsChecks n ys ++ cs) p in
+    seen-in n ys (q .1 .0) i l
+
+pub listed-seen : (n : ℕ) (t ys : List ℕ) (m : Move) (k room place : ℕ)
+    (ls : List ℕ) → linesSaid n t ys m k room place ≡ gives ls → (i : ℕ)
+    → i < n → inSome ys i ≡ true
+listed-seen n t ys m k room place ls h i l =
+    let xs = linesOf n t ys m k in
+    let cs = moveChecks n t m ++ roomChecks (place + length xs) room in
+    let p = gives-pass (treeChecks n t ++ partitionsChecks n ys ++ cs) xs ls h in
+    let q = pass-after (treeChecks n t) (partitionsChecks n ys ++ cs) p in
+    seen-in n ys (q .1 .0) i l
+
+-- So it is in a job: where a field gives lines, each taxon is in a partition.
+pub lines-seen : (j : List ℕ) (k k′ : Known) (ls : List ℕ)
+    → job.field j k ≡ next k′ ls → (ls ≡ [] → ⊥) → (i : ℕ) → i < k .taxa
+    → inSome (k .parts) i ≡ true
+lines-seen = field-seen
+
+-- The bitwise or of the partitions has exactly the taxa that are in one.
+pub union-seen : (ys : List ℕ) (i : ℕ) → has (union ys) i ≡ inSome ys i
+union-seen = has-union
+
 -- The steps in order, with the program's memory, write the listing of the
 -- whole job as defined.
 pub steps-list : (j table parts : List ℕ) (room : ℕ) → Roomy table parts room
@@ -357,6 +394,12 @@ pub changed-stays : (n : ℕ) (t : List ℕ) (m : Move) (y₁ y₂ : ℕ) → Su
     → y₂ < 2 ^ n → dist n t (moved n t m) y₂ ≡ 0
     → dist n t (moved n t m) y₁ ≡ 0
 changed-stays = move-same-mono
+
+-- Nor do they bring refusal 16: where each taxon was in some partition, it
+-- still is.
+pub seen-stays : (n : ℕ) (ys zs : List ℕ) → Gains n ys zs
+    → allSeen n ys ≡ true → allSeen n zs ≡ true
+seen-stays = seen-gains
 
 -- Nor do they raise the number of partitions that are unchanged, which the
 -- listing does not print.

@@ -1,19 +1,20 @@
 -- The step over the next field, by its tag and at a job's end: what the code
 -- gives is the outcome. Assumes nothing.
 use mathlib.Core.Path.{_≡_, refl, sym, ap, ap₂, _∙_}
-use mathlib.Core.Bool.{Bool, true, false, _&&_}
+use mathlib.Core.Bool.{Bool, true, false, _&&_, _||_}
 use mathlib.Core.List.{List, [], _∷_, _++_}
 use Prim.Native.Nat.{ℕ, _+_, _*_, _≤_, _<_}
 use native.Mathlib.Omega.{arith}
-use lib.Dec.{leb}
+use lib.Dec.{eqb, leb}
 use lib.ListN.{length, take, drop, take-append-drop}
 use lib.Seq.{length-take-le}
-use borrow.Author.Tests.{eq-eqb, ne-eqb, le-leb, lt-leb}
+use borrow.Author.Tests.{ne-eqb, le-leb, lt-leb}
 use Rattle.taxa.specs.Sets.{pick}
 use Rattle.tree.specs.Tree.{rows}
-use Rattle.tree.specs.Refusals.{Said, gives, refuses}
+use Rattle.tree.specs.Refusals.{_else_, Said, gives, refuses, judged}
+use Rattle.tree.proofs.RefusalLaws.{judged-next, judged-fail}
 use Rattle.fields.specs.Fields.{tagAt, allowed}
-use Rattle.job.specs.Job.{Known, Outcome, next, over, stop, after, field, fieldOf, taxaField, tableField, partitionField, taxaStep, tableStep, partitionStep, moveStep, withTaxa, withTable, withPartition}
+use Rattle.job.specs.Job.{Known, Outcome, next, over, stop, after, seenSoFar, endStep, tagStep, field, fieldOf, taxaField, tableField, partitionField, taxaStep, tableStep, partitionStep, moveStep, withTaxa, withTable, withPartition}
 use Rattle.job.specs.Steps.{knownOf, Held, fitting, toldOf, steppedSays, tableThen, partsThen, Gives}
 use Rattle.job.specs.declared.State.{State}
 use Rattle.job.specs.declared.Stepped.{Stepped}
@@ -92,28 +93,57 @@ module _ (job : List ℕ) (s : State) (room : ℕ) (r : Stepped) (table parts pa
           (given (leb (length (take (s .parts) parts ++ y ∷ [])) (length parts)) (knownOf s [] parts .table) y (w .0 ∙ ap toldOf e) (w .1 ∙ ap (λ (x : Outcome). partsThen x parts) e))
       go (refuses j) w = record { says = w .0; table-then = refl; parts-then = w .1; out-then = refl }
 
--- ---- the end of a job, and a tag that is not allowed
-module _ (job : List ℕ) (s : State) (table parts : List ℕ) (h : Held s table parts) (room : ℕ) where
+-- ---- the end of a job, 16 before a field, and a tag that is not allowed
+module _ (job : List ℕ) (s : State) (table parts : List ℕ) (room : ℕ) where
   abbrev k : Known
   k = knownOf s table parts
 
-  pub end-12 : length job ≤ s .at → s .parts ≡ 0 → fitting (s .at) (length parts) room (field job k) ≡ stop 12 (length job)
+  abbrev tag : ℕ
+  tag = tagAt job (s .at)
+
+  abbrev o : Outcome
+  o = fitting (s .at) (length parts) room (field job k)
+
+  -- What the end of a job gives is told, and leaves the memory.
+  pub end-gives : (out : List ℕ) (r : Stepped) → length job ≤ s .at → steppedSays r ≡ toldOf (endStep (length job) (knownOf s [] parts)) → Gives o r table table parts parts out out
   unfolding field
-  end-12 a b = rw (le-leb (length job) (s .at) a, eq-eqb (length (k .parts)) 0 (parts-held s table parts h ∙ b))
+  end-gives out r a e =
+      gives-as (ap (λ (b : Bool). fitting (s .at) (length parts) room (pick b (endStep (length job) k) (tagStep job k tag))) (sym (le-leb (length job) (s .at) a)))
+      (go (judged ((leb 1 (length (k .parts)) else 12) ∷ (seenSoFar k else 16) ∷ []) (tt {0})) e)
+    where
+      go : (x : Said (Unit {0})) → steppedSays r ≡ toldOf (after (length job) x (λ u. over))
+          → Gives (fitting (s .at) (length parts) room (after (length job) x (λ u. over))) r table table parts parts out out
+      go (gives u) w = record { says = w; table-then = refl; parts-then = refl; out-then = refl }
+      go (refuses j) w = record { says = w; table-then = refl; parts-then = refl; out-then = refl }
 
-  pub end-over : length job ≤ s .at → (s .parts ≡ 0 → ⊥) → fitting (s .at) (length parts) room (field job k) ≡ over
-  unfolding field
-  end-over a b = rw (le-leb (length job) (s .at) a, ne-eqb (length (k .parts)) 0 (λ e. b (sym (parts-held s table parts h) ∙ e)))
+  module _ (h : Held s table parts) (a : s .at < length job) where
+    -- The checks before a field: 16, and whether its tag is allowed.
+    abbrev ok : Bool
+    ok = allowed (s .at) (length (k .parts)) (s .moves) tag
 
-  module _ (a : s .at < length job) where
-    pub tag-12 : allowed (s .at) (s .parts) (s .moves) (tagAt job (s .at)) ≡ false → fitting (s .at) (length parts) room (field job k) ≡ stop 12 (s .at)
+    abbrev by : Said (Unit {0}) → Outcome
+    by x = fitting (s .at) (length parts) room (after (s .at) x (λ u. fieldOf job k tag))
+
+    at-field : o ≡ by (judged (((eqb tag 3 || seenSoFar k) else 16) ∷ (ok else 12) ∷ []) tt)
     unfolding field
-    tag-12 e = rw (lt-leb (length job) (s .at) a, parts-held s table parts h, e)
+    at-field = ap (λ (b : Bool). fitting (s .at) (length parts) room (pick b (endStep (length job) k) (tagStep job k tag))) (lt-leb (length job) (s .at) a)
 
-    pub tag-next : allowed (s .at) (s .parts) (s .moves) (tagAt job (s .at)) ≡ true
-        → fitting (s .at) (length parts) room (fieldOf job k (tagAt job (s .at))) ≡ fitting (s .at) (length parts) room (field job k)
-    unfolding field
-    tag-next e = rw (lt-leb (length job) (s .at) a, parts-held s table parts h, e)
+    pub tag-16 : (eqb tag 3 || seenSoFar (knownOf s [] parts)) ≡ false → o ≡ stop 16 (s .at)
+    tag-16 e = at-field ∙ ap by (judged-fail (eqb tag 3 || seenSoFar k) 16 ((ok else 12) ∷ []) tt e)
+
+    module _ (e : (eqb tag 3 || seenSoFar (knownOf s [] parts)) ≡ true) where
+      past-16 : o ≡ by (judged ((ok else 12) ∷ []) tt)
+      past-16 = at-field ∙ ap by (judged-next (eqb tag 3 || seenSoFar k) 16 ((ok else 12) ∷ []) tt e)
+
+      held : ok ≡ allowed (s .at) (s .parts) (s .moves) tag
+      held = ap (λ (c : ℕ). allowed (s .at) c (s .moves) tag) (parts-held s table parts h)
+
+      pub tag-12 : allowed (s .at) (s .parts) (s .moves) tag ≡ false → o ≡ stop 12 (s .at)
+      tag-12 w = past-16 ∙ ap by (judged-fail ok 12 [] tt (held ∙ w))
+
+      pub tag-next : allowed (s .at) (s .parts) (s .moves) tag ≡ true → fitting (s .at) (length parts) room (fieldOf job k tag) ≡ o
+      unfolding judged
+      tag-next w = sym (past-16 ∙ ap by (judged-next ok 12 [] tt (held ∙ w)))
 
 pub far-offset : (at : ℕ) → 4 ≤ at → (at ≡ 4 → ⊥) → 4 < at
 far-offset at l d = omega (arith, l, d)

@@ -3,6 +3,7 @@ pub mod PlainListing
 pub mod ReadLaws
 pub mod RoomLaws
 pub mod RunLaws
+pub mod SeenLaws
 pub mod SoundLaws
 pub mod StateLaws
 pub mod StepLaws

@@ -24,7 +24,7 @@ step-plain job k k′ ls h = go (turn job k k′ ls h)
     go (read-taxa n a c b e l) = empty l
     go (read-table t a c p e l) = empty l
     go (read-partition y a b few c r e l) = empty l
-    go (read-move m a b c p e l) = subst Plain (sym l) (move-plain (k .moves + 1) _ _)
+    go (read-move m a b c all p e l) = subst Plain (sym l) (move-plain (k .moves + 1) _ _)
 
 -- From what is known on, the lines are plain.
 plain-from : (job : List ℕ) (f : ℕ) (k : Known) → Plain (listingFrom f job k)

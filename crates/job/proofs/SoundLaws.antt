@@ -14,10 +14,11 @@ use Rattle.taxa.proofs.Bools.{and-left, and-right, and-both}
 use Rattle.taxa.proofs.Sizes.{size-le}
 use Rattle.tree.specs.Tree.{rows}
 use Rattle.tree.specs.Splits.{splits, distBy, dist, distancesBy, distances}
-use Rattle.tree.specs.Refusals.{each, tableChecks, Accepted}
+use Rattle.tree.specs.Refusals.{each, allSeen, tableChecks, Accepted}
 use Rattle.tree.proofs.Lists.{lacks-most}
 use Rattle.tree.proofs.Members.{members-count, members-is}
 use Rattle.tree.proofs.RefusalLaws.{Pass, pass-accepted}
+use Rattle.tree.proofs.Seen.{seen-more}
 use Rattle.moves.specs.Moves.{Move, moved, moveChecks}
 use Rattle.moves.proofs.Moved.{moved-accepted}
 use Rattle.rules.specs.Each.{zeros}
@@ -59,7 +60,7 @@ each-more f (x ∷ ys) y h e = and-both (f x) (each f (ys ++ y ∷ [])) (and-lef
 
 -- Before the first field all is sound.
 pub sound-start : (job : List ℕ) → Sound job nothing
-sound-start job = record { within = omega arith; few-moves = omega arith; few-parts = omega arith; stage = at-start refl }
+sound-start job = record { within = omega arith; few-moves = omega arith; few-parts = omega arith; seen = λ d. absurd (d refl); stage = at-start refl }
 
 module _ (job : List ℕ) (k : Known) (s : Sound job k) where
   -- After n.
@@ -68,6 +69,7 @@ module _ (job : List ℕ) (k : Known) (s : Sound job k) where
     within = omega (arith, leb-true (k .at + 3 + 1) (length job) c);
     few-moves = omega arith;
     few-parts = omega arith;
+    seen = λ d. absurd (d refl);
     stage = at-table (omega arith) (leb-true 4 n (and-left (leb 4 n) (leb n most) b)) (leb-true n most (and-right (leb 4 n) (leb n most) b)) refl refl refl;
   }
 
@@ -78,6 +80,7 @@ module _ (job : List ℕ) (k : Known) (s : Sound job k) where
     within = omega (arith, leb-true (k .at + 3 + 2 * rows (k .taxa)) (length job) c, eqb-true (length t) (2 * rows (k .taxa)) (p .0));
     few-moves = omega arith;
     few-parts = omega arith;
+    seen = λ d. absurd (d refl);
     stage = past-table (omega arith) (pass-accepted (k .taxa) t (count-right k a (s .stage), p)) refl;
   }
 
@@ -87,15 +90,18 @@ module _ (job : List ℕ) (k : Known) (s : Sound job k) where
     within = omega (arith, leb-true (k .at + 3 + 8) (length job) c);
     few-moves = omega (arith, s .few-moves);
     few-parts = omega (arith, length-append (k .parts) (y ∷ []));
+    seen = λ d. seen-more (k .taxa) (k .parts) y (s .seen d);
     stage = past-table (omega (arith, past k a b (s .stage) .0)) (past k a b (s .stage) .1) (each-more (λ x. ltb x (2 ^ k .taxa)) (k .parts) y (past k a b (s .stage) .2) r);
   }
 
   -- After a move.
-  sound-move : (m : Move) → (k .at ≡ 0 → ⊥) → (k .at ≡ 4 → ⊥) → complete job (k .at) 4 ≡ true → Pass (moveChecks (k .taxa) (k .table) m) → Sound job (withMove k m)
-  sound-move m a b c p = record {
+  sound-move : (m : Move) → (k .at ≡ 0 → ⊥) → (k .at ≡ 4 → ⊥) → complete job (k .at) 4 ≡ true → allSeen (k .taxa) (k .parts) ≡ true → Pass (moveChecks (k .taxa) (k .table) m)
+      → Sound job (withMove k m)
+  sound-move m a b c all p = record {
     within = omega (arith, leb-true (k .at + 3 + 4) (length job) c);
     few-moves = omega (arith, s .few-moves);
     few-parts = s .few-parts;
+    seen = λ d. all;
     stage = past-table (omega (arith, past k a b (s .stage) .0)) (moved-accepted (k .taxa) (k .table) m (past k a b (s .stage) .1) p) (past k a b (s .stage) .2);
   }
 
@@ -111,7 +117,7 @@ module _ (job : List ℕ) (k : Known) (s : Sound job k) where
       go (read-taxa n a c b e l) = to (withTaxa (k .at) n) e (sound-taxa n a c b) (omega arith)
       go (read-table t a c p e l) = to (withTable (k .at) (k .taxa) t) e (sound-table t a c p) (omega arith)
       go (read-partition y a b few c r e l) = to (withPartition k y) e (sound-partition y a b few c r) (omega arith)
-      go (read-move m a b c p e l) = to (withMove k m) e (sound-move m a b c p) (omega arith)
+      go (read-move m a b c all p e l) = to (withMove k m) e (sound-move m a b c all p) (omega arith)
 
 -- ---- a step's lines
 
@@ -168,7 +174,7 @@ lines-few job k s few k′ ls h = go (turn job k k′ ls h)
     go (read-taxa n a c b e l) = none l
     go (read-table t a c p e l) = none l
     go (read-partition y a b c d r e l) = none l
-    go (read-move m a b c p e l) =
+    go (read-move m a b c all p e l) =
         let w = past k a b (s .stage) in
         omega (
           arith,

@@ -10,15 +10,16 @@ use lib.Dec.{eqb, ltb, leb}
 use lib.ListN.{length, getD}
 use borrow.Author.Tests.{eqb-true, eqb-false, ltb-true}
 use Rattle.taxa.specs.Most.{most, mostPartitions}
-use Rattle.taxa.specs.Sets.{pick}
+use Rattle.taxa.specs.Sets.{pick, inSome}
 use Rattle.taxa.proofs.Bools.{and-left, and-right, or-cases}
 use Rattle.tree.specs.Tree.{rows}
-use Rattle.tree.specs.Refusals.{Check, _else_, judged, countChecks, tableChecks, treeChecks, partitionChecks, partitionsChecks}
-use Rattle.tree.proofs.RefusalLaws.{Pass}
+use Rattle.tree.specs.Refusals.{Check, _else_, judged, countChecks, tableChecks, treeChecks, partitionChecks, allSeen, partitionsChecks}
+use Rattle.tree.proofs.RefusalLaws.{Pass, pass-after}
+use Rattle.tree.proofs.Seen.{seen-in}
 use Rattle.moves.specs.Moves.{Move, moveChecks}
 use Rattle.fields.specs.Fields.{tagAt, statedAt, contentAt, numberIn, moveIn, allowed, headed, complete, lengthChecks}
 use Rattle.listing.specs.Listing.{linesOf}
-use Rattle.job.specs.Job.{Known, Outcome, next, over, stop, after, withTaxa, withTable, withPartition, withMove, taxaStep, tableStep, partitionStep, moveStep, fieldOf, field}
+use Rattle.job.specs.Job.{Known, Outcome, next, over, after, withTaxa, withTable, withPartition, withMove, taxaStep, tableStep, partitionStep, moveStep, fieldOf, seenSoFar, endStep, tagStep, field}
 
 -- A step past a field: n, the table, a partition or a move.
 pub data Turn (job : List ℕ) (k k′ : Known) (ls : List ℕ) : Type 0 where
@@ -26,8 +27,8 @@ pub data Turn (job : List ℕ) (k k′ : Known) (ls : List ℕ) : Type 0 where
   read-table : (t : List ℕ) → k .at ≡ 4 → complete job (k .at) (2 * rows (k .taxa)) ≡ true → Pass (tableChecks (k .taxa) t) → k′ ≡ withTable (k .at) (k .taxa) t → ls ≡ [] → Turn job k k′ ls
   read-partition : (y : ℕ) → (k .at ≡ 0 → ⊥) → (k .at ≡ 4 → ⊥) → length (k .parts) < mostPartitions → complete job (k .at) 8 ≡ true → ltb y (2 ^ k .taxa) ≡ true → k′ ≡ withPartition k y → ls ≡ []
       → Turn job k k′ ls
-  read-move : (m : Move) → (k .at ≡ 0 → ⊥) → (k .at ≡ 4 → ⊥) → complete job (k .at) 4 ≡ true → Pass (moveChecks (k .taxa) (k .table) m) → k′ ≡ withMove k m
-      → ls ≡ linesOf (k .taxa) (k .table) (k .parts) m (k .moves + 1) → Turn job k k′ ls
+  read-move : (m : Move) → (k .at ≡ 0 → ⊥) → (k .at ≡ 4 → ⊥) → complete job (k .at) 4 ≡ true → allSeen (k .taxa) (k .parts) ≡ true → Pass (moveChecks (k .taxa) (k .table) m)
+      → k′ ≡ withMove k m → ls ≡ linesOf (k .taxa) (k .table) (k .parts) m (k .moves + 1) → Turn job k k′ ls
 
 -- Checks that give an outcome other than a refusal have all passed.
 after-next : {A : Type 0} (at : ℕ) (cs : List Check) (a : A) (f : A → Outcome) (k : Known) (ls : List ℕ) → after at (judged cs a) f ≡ next k ls → Pass cs × (f a ≡ next k ls)
@@ -36,10 +37,9 @@ after-next at [] a f k ls h = (tt, h)
 after-next at ((true else r) ∷ cs) a f k ls h = let w = after-next at cs a f k ls h in ((refl, w .0), w .1)
 after-next at ((false else r) ∷ cs) a f k ls h = absurd (let z : _≡_ {A = ℕ} 0 1 = cc in omega arith)
 
--- Of checks that all pass the later ones pass.
-pass-after : (cs ds : List Check) → Pass (cs ++ ds) → Pass ds
-pass-after [] ds p = p
-pass-after ((b else r) ∷ cs) ds p = pass-after cs ds (p .1)
+-- The end of a job is no step past a field.
+not-over : (k : Known) (ls : List ℕ) → over ≡ next k ls → _≡_ {A = ℕ} 0 1
+not-over k ls h = cc
 
 -- Two equal steps past a field leave the same known.
 next-known : (a b : Known) (ls ms : List ℕ) → next a ls ≡ next b ms → b ≡ a
@@ -98,15 +98,19 @@ module _ (job : List ℕ) (k : Known) where
   field-next : (k′ : Known) (ls : List ℕ) → field job k ≡ next k′ ls
       → (allowed (k .at) (length (k .parts)) (k .moves) (tagAt job (k .at)) ≡ true) × (fieldOf job k (tagAt job (k .at)) ≡ next k′ ls)
   unfolding field
-  field-next k′ ls h = go (leb (length job) (k .at)) (eqb (length (k .parts)) 0) (allowed (k .at) (length (k .parts)) (k .moves) (tagAt job (k .at))) refl h
+  field-next k′ ls h = go (leb (length job) (k .at)) h
     where
-      go : (a b c : Bool) → allowed (k .at) (length (k .parts)) (k .moves) (tagAt job (k .at)) ≡ c
-          → pick a (pick b (stop 12 (length job)) over) (pick c (fieldOf job k (tagAt job (k .at))) (stop 12 (k .at))) ≡ next k′ ls
-          → (allowed (k .at) (length (k .parts)) (k .moves) (tagAt job (k .at)) ≡ true) × (fieldOf job k (tagAt job (k .at)) ≡ next k′ ls)
-      go true true c p w = absurd (let z : _≡_ {A = ℕ} 0 1 = cc in omega arith)
-      go true false c p w = absurd (let z : _≡_ {A = ℕ} 0 1 = cc in omega arith)
-      go false b true p w = (p, w)
-      go false b false p w = absurd (let z : _≡_ {A = ℕ} 0 1 = cc in omega arith)
+      tag : ℕ
+      tag = tagAt job (k .at)
+
+      go : (a : Bool) → pick a (endStep (length job) k) (tagStep job k tag) ≡ next k′ ls
+          → (allowed (k .at) (length (k .parts)) (k .moves) tag ≡ true) × (fieldOf job k tag ≡ next k′ ls)
+      go true w =
+          let p = after-next (length job) ((leb 1 (length (k .parts)) else 12) ∷ (seenSoFar k else 16) ∷ []) (tt {0}) (λ (u : Unit {0}). over) k′ ls w in
+          absurd (let z : _≡_ {A = ℕ} 0 1 = not-over k′ ls (p .1) in omega arith)
+      go false w =
+          let p = after-next (k .at) (((eqb tag 3 || seenSoFar k) else 16) ∷ (allowed (k .at) (length (k .parts)) (k .moves) tag else 12) ∷ []) (tt {0}) (λ (u : Unit {0}). fieldOf job k tag) k′ ls w in
+          (p .0 .1 .0, p .1)
 
   -- Every step past a field is one of the four.
   pub turn : (k′ : Known) (ls : List ℕ) → field job k ≡ next k′ ls → Turn job k k′ ls
@@ -138,8 +142,19 @@ module _ (job : List ℕ) (k : Known) where
           read-partition y a b c (whole 8 (p .0 .0)) (p .0 .1 .0) (next-known (withPartition k y) k′ [] ls (p .1)) (next-lines (withPartition k y) k′ [] ls (p .1))
       go (four a b e) =
           let m = moveIn (contentAt job (k .at) 4) in
-          let cs = treeChecks (k .taxa) (k .table) ++ partitionsChecks (k .taxa) (k .parts) in
+          let cs = partitionsChecks (k .taxa) (k .parts) ++ moveChecks (k .taxa) (k .table) m in
           let lines = linesOf (k .taxa) (k .table) (k .parts) m (k .moves + 1) in
           let p = after-next (k .at) (lengthChecks job (k .at) 4 ++ treeChecks (k .taxa) (k .table) ++ partitionsChecks (k .taxa) (k .parts) ++ moveChecks (k .taxa) (k .table) m) m
           (λ (x : Move). next (withMove k x) (linesOf (k .taxa) (k .table) (k .parts) x (k .moves + 1))) k′ ls (sym (of-four tag e) ∙ w .1) in
-          read-move m a b (whole 4 (p .0 .0)) (pass-after cs (moveChecks (k .taxa) (k .table) m) (p .0 .1)) (next-known (withMove k m) k′ lines ls (p .1)) (next-lines (withMove k m) k′ lines ls (p .1))
+          let q = pass-after (treeChecks (k .taxa) (k .table)) cs (p .0 .1) in
+          read-move m a b (whole 4 (p .0 .0)) (q .1 .0) (q .1 .1) (next-known (withMove k m) k′ lines ls (p .1)) (next-lines (withMove k m) k′ lines ls (p .1))
+
+  -- Where a field gives lines, each taxon is in a partition.
+  pub field-seen : (k′ : Known) (ls : List ℕ) → field job k ≡ next k′ ls → (ls ≡ [] → ⊥) → (i : ℕ) → i < k .taxa → inSome (k .parts) i ≡ true
+  field-seen k′ ls h some i l = go (turn k′ ls h)
+    where
+      go : Turn job k k′ ls → inSome (k .parts) i ≡ true
+      go (read-taxa n a c b e none) = absurd (some none)
+      go (read-table t a c p e none) = absurd (some none)
+      go (read-partition y a b few c r e none) = absurd (some none)
+      go (read-move m a b c all p e ls-are) = seen-in (k .taxa) (k .parts) all i l

@@ -1,6 +1,7 @@
 -- A job's fields, the step over one of them, and the listing of a whole job,
 -- in document 01's order.
 use Prim.Native.Nat.{ℕ, zero, suc, _+_, _*_}
+use mathlib.Core.Bool.{Bool, not, _&&_, _||_}
 use mathlib.Core.List.{List, [], _∷_, _++_}
 use lib.Dec.{eqb, ltb, leb}
 use lib.ListN.{length, getD}
@@ -8,7 +9,7 @@ use Rattle.taxa.specs.Sets.{pick}
 use Rattle.tree.specs.Tree.{rows}
 use Rattle.tree.specs.Refusals.{_else_, Said, gives, refuses, judged}
 use Rattle.tree.specs.Refusals.{countChecks, tableChecks, treeChecks}
-use Rattle.tree.specs.Refusals.{partitionChecks, partitionsChecks}
+use Rattle.tree.specs.Refusals.{partitionChecks, allSeen, partitionsChecks}
 use Rattle.moves.specs.Moves.{Move, moved, moveChecks}
 use Rattle.fields.specs.Fields.{tagAt, statedAt, contentAt, numberIn, moveIn}
 use Rattle.fields.specs.Fields.{allowed, headed, complete, lengthChecks}
@@ -47,7 +48,7 @@ partitionField job at n =
     judged (lengthChecks job at 8 ++ partitionChecks n y) y
 
 -- Tag 4: a move, on the tree the last left. It is a call of its own, with the
--- checks of one; 1 to 6 have passed before.
+-- checks of one; 1 to 6 and 16 have passed before.
 abbrev pub moveField : List ℕ → ℕ → ℕ → List ℕ → List ℕ → Said Move
 moveField job at n t ys =
     let m = moveIn (contentAt job at 4) in
@@ -110,12 +111,33 @@ unfoldable pub fieldOf : List ℕ → Known → ℕ → Outcome
 fieldOf job k tag =
     pick (eqb tag 1) (taxaStep job (k .at)) (pick (eqb tag 2) (tableStep job (k .at) (k .taxa)) (pick (eqb tag 3) (partitionStep job k) (moveStep job k)))
 
--- The next field: tag allowed here, length and completeness, then content. A
--- job that ends too early between fields is 12 at the job's length.
+-- Partitions have been read, and no move: the next field may be the first
+-- after the partitions.
+abbrev pub partsRead : Known → Bool
+partsRead k = ltb 4 (k .at) && leb 1 (length (k .parts)) && eqb (k .moves) 0
+
+-- 16 is not given: partitions are not what was read last, or each taxon is in
+-- one.
+abbrev pub seenSoFar : Known → Bool
+seenSoFar k = not (partsRead k) || allSeen (k .taxa) (k .parts)
+
+-- The end of a job of so many bytes. One that ends too early between fields is
+-- 12, and 16 is judged where it ends after its partitions; both at its length.
+abbrev pub endStep : ℕ → Known → Outcome
+endStep long k =
+    after long (judged ((leb 1 (length (k .parts)) else 12) ∷ (seenSoFar k else 16) ∷ []) (tt {0})) (λ u. over)
+
+-- A field with this tag. 16 is judged at the first field after the partitions,
+-- which has a tag other than 3, before that field is; then whether the tag is
+-- allowed here, length and completeness, then content.
+abbrev pub tagStep : List ℕ → Known → ℕ → Outcome
+tagStep job k tag =
+    after (k .at) (judged (((eqb tag 3 || seenSoFar k) else 16) ∷ (allowed (k .at) (length (k .parts)) (k .moves) tag else 12) ∷ []) (tt {0})) (λ u. fieldOf job k tag)
+
+-- The next field, or the end of the job.
 unfoldable pub field : List ℕ → Known → Outcome
 field job k =
-    pick (leb (length job) (k .at)) (pick (eqb (length (k .parts)) 0) (stop 12 (length job)) over)
-    (pick (allowed (k .at) (length (k .parts)) (k .moves) (tagAt job (k .at))) (fieldOf job k (tagAt job (k .at))) (stop 12 (k .at)))
+    pick (leb (length job) (k .at)) (endStep (length job) k) (tagStep job k (tagAt job (k .at)))
 
 -- ---- the whole job
 

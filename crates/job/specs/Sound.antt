@@ -6,7 +6,7 @@ use mathlib.Core.List.{List, [], _++_}
 use lib.Dec.{ltb}
 use lib.ListN.{length}
 use Rattle.taxa.specs.Most.{most, mostPartitions}
-use Rattle.tree.specs.Refusals.{each, Accepted}
+use Rattle.tree.specs.Refusals.{each, allSeen, Accepted}
 use Rattle.text.specs.Lines.{endLine, refusedLine}
 use Rattle.job.specs.Job.{Known, nothing}
 
@@ -19,11 +19,12 @@ pub data Stage (k : Known) : Type 0 where
       → each (λ y. ltb y (2 ^ k .taxa)) (k .parts) ≡ true → Stage k
 
 -- What is known lies within the job, with as many moves as their bytes allow
--- and no more partitions than the most.
+-- and no more partitions than the most; after a move each taxon is in one.
 pub record Sound (job : List ℕ) (k : Known) : Type 0 where
   pub within : k .at ≤ length job
   pub few-moves : 7 * k .moves ≤ k .at
   pub few-parts : length (k .parts) ≤ mostPartitions
+  pub seen : (k .moves ≡ 0 → ⊥) → allSeen (k .taxa) (k .parts) ≡ true
   pub stage : Stage k
 
 -- A listing that ends with a closing line.

@@ -10,7 +10,7 @@ ghost use Rattle.tree.specs.Tree.{rows};
 ghost use Rattle.fits.specs.Bytes.{moveOf, fittedSays};
 ghost use Rattle.fields.specs.Fields as fields_spec;
 ghost use Rattle.fields.specs.Fields.{tagAt, moveIn};
-ghost use Rattle.job.specs.Job.{taxaStep, tableStep, keptStep, partitionStep, moveStep, fieldOf, field, longest};
+ghost use Rattle.job.specs.Job.{taxaStep, tableStep, keptStep, partitionStep, moveStep, fieldOf, seenSoFar, endStep, field, longest};
 ghost use Rattle.job.specs.Steps.{knownOf, fitting, stepped, steppedSays, toldOf, tableThen, partsThen, stateSaid, Gives, Held};
 use fits::Fitted;
 use fits::Move;
@@ -244,24 +244,73 @@ fn read_field(job: &[u8], s: State, table: &mut [u8], parts: &mut [u64], out: &m
     read_move(job, s, table, parts, out)
 }
 
-// The next field of a state that a job can have: its end, and whether its tag
-// is allowed.
+// Whether 16 is not given: partitions are not what was read last, or each
+// taxon is in one.
+fn seen_so_far(s: State, parts: &[u64]) -> bool
+    requires { ⌜ (4 < s .at → 4 ≤ s .taxa) × (s .taxa ≤ most) × (s .parts ≤ length (now parts)) ⌝ }
+    ensures { λ r. ⌜ r ≡ seenSoFar (knownOf s [] (now (parts .entry))) ⌝ }
+{
+    if s.at <= 4 {
+        return true;
+    }
+    if s.parts == 0 {
+        return true;
+    }
+    if s.moves != 0 {
+        return true;
+    }
+    judge::all_seen(s.taxa, &parts[..s.parts])
+}
+
+// The end of a job of so many bytes.
+fn read_end(long: usize, s: State, parts: &[u64]) -> Stepped
+    requires { ⌜ (4 < s .at → 4 ≤ s .taxa) × (s .taxa ≤ most) × (s .parts ≤ length (now parts)) ⌝ }
+    ensures { λ r. ⌜ steppedSays r ≡ toldOf (endStep long (knownOf s [] (now (parts .entry)))) ⌝ }
+{
+    if s.parts == 0 {
+        return Stepped::Refused {
+            why: Refusal::Field,
+            place: long,
+        };
+    }
+    if !seen_so_far(s, parts) {
+        return Stepped::Refused {
+            why: Refusal::Unseen,
+            place: long,
+        };
+    }
+    Stepped::Ended
+}
+
+// Whether 16 is not given at a field with this tag.
+fn seen_before(tag: u8, s: State, parts: &[u64]) -> bool
+    requires { ⌜ (4 < s .at → 4 ≤ s .taxa) × (s .taxa ≤ most) × (s .parts ≤ length (now parts)) ⌝ }
+    ensures { λ r. ⌜ r ≡ (eqb tag 3 || seenSoFar (knownOf s [] (now (parts .entry)))) ⌝ }
+{
+    if tag == 3 {
+        return true;
+    }
+    seen_so_far(s, parts)
+}
+
+// The next field of a state that a job can have, or the job's end: whether 16
+// is given before it, and whether its tag is allowed.
 fn read_next(job: &[u8], s: State, table: &mut [u8], parts: &mut [u64], out: &mut [u8]) -> Stepped
     requires { ⌜ (length (now job) ≤ longest) × (Held s (now table) (now parts)) ⌝ }
     ensures { λ r. ⌜ Gives (fitting (s .at) (length (now (parts .entry))) (length (now (out .entry))) (field (now (job .entry)) (knownOf s (now (table .entry)) (now (parts .entry))))) r (now (table .entry)) (now (table .exit)) (now (parts .entry)) (now (parts .exit)) (now (out .entry)) (now (out .exit)) ⌝ }
 {
     let at = s.at;
-    let c = s.parts;
     if job.len() <= at {
-        if c == 0 {
-            return Stepped::Refused {
-                why: Refusal::Field,
-                place: job.len(),
-            };
-        }
-        return Stepped::Ended;
+        return read_end(job.len(), s, parts);
     }
-    if !fields::allowed(at, c, s.moves, job[at]) {
+    let tag = job[at];
+    if !seen_before(tag, s, parts) {
+        return Stepped::Refused {
+            why: Refusal::Unseen,
+            place: at,
+        };
+    }
+    if !fields::allowed(at, s.parts, s.moves, tag) {
         return Stepped::Refused {
             why: Refusal::Field,
             place: at,

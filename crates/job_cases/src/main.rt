@@ -204,12 +204,12 @@ fn partitions(job: &mut [u8], at: usize, k: u8) -> usize {
     end
 }
 
-// Puts k partitions of 64 taxa each.
-fn wholes(job: &mut [u8], at: usize, k: u8) -> usize {
+// Puts the same partition k times, its eight bytes being these.
+fn times(job: &mut [u8], at: usize, k: u8, y: &[u8]) -> usize {
     let mut end = at;
     let mut i: u8 = 0;
     while i < k {
-        end = field(job, end, 3, 8, &[255; 8]);
+        end = field(job, end, 3, 8, y);
         i += 1;
     }
     end
@@ -424,7 +424,7 @@ fn largest() {
     let mut j = [0u8; 1024];
     let t = samples::along();
     let a = tree(&mut j, 64, 250, &t);
-    let b = wholes(&mut j, a, 64);
+    let b = times(&mut j, a, 64, &[255; 8]);
     let c = change(&mut j, b, 2, 0, 123, 0);
     let e = change(&mut j, c, 3, 62, 4, 119);
     run(60, b"64 taxa and 64 partitions", &j, e);
@@ -439,7 +439,7 @@ fn savings() {
     let a = tree(&mut j, 6, 18, &S);
     let b = part(&mut j, a, 0);
     let c = part(&mut j, b, 32);
-    let e = part(&mut j, c, 9);
+    let e = part(&mut j, c, 10);
     let f = part(&mut j, e, 21);
     let g = change(&mut j, f, 1, 4, 3, 5);
     let h = change(&mut j, g, 2, 0, 7, 0);
@@ -455,6 +455,78 @@ fn savings() {
     run(65, b"fewer than 4 taxa and 4 that are changed", &j, o);
 }
 
+// Puts tree S and two partitions in which taxon 5 is in none; 47 bytes.
+fn begun_unseen(job: &mut [u8]) -> usize {
+    let a = tree(job, 6, 18, &S);
+    let b = part(job, a, 15);
+    part(job, b, 30)
+}
+
+// Refusal 16 before the first field after the partitions, whatever it is, and
+// at the end of the job.
+fn unseen() {
+    let mut j = [0u8; 256];
+    let a = begun_unseen(&mut j);
+    run(66, b"taxon 5 unseen, then the end", &j, a);
+    let b = change(&mut j, a, 1, 4, 3, 5);
+    run(67, b"taxon 5 unseen, then a move", &j, b);
+    let c = change(&mut j, b, 2, 0, 7, 0);
+    run(68, b"taxon 5 unseen, then two moves", &j, c);
+    let e = change(&mut j, a, 0, 9, 9, 9);
+    run(69, b"taxon 5 unseen, then kind 0", &j, e);
+    let f = byte(&mut j, a, 5);
+    run(70, b"taxon 5 unseen, then tag 5 alone", &j, f);
+    let g = field(&mut j, a, 2, 18, &S);
+    run(71, b"taxon 5 unseen, then the table again", &j, g);
+    let h = byte(&mut j, a, 4);
+    run(72, b"taxon 5 unseen, then the tag of a move alone", &j, h);
+    let i = field(&mut j, a, 4, 4, &[1, 4, 3]);
+    run(73, b"taxon 5 unseen, then a move cut short", &j, i);
+    let k = field(&mut j, a, 4, 5, &[1, 4, 3, 5, 0]);
+    run(74, b"taxon 5 unseen, then a move of five bytes", &j, k);
+    let l = part(&mut j, a, 32);
+    let m = change(&mut j, l, 1, 4, 3, 5);
+    run(75, b"taxon 5 seen by the last partition alone", &j, m);
+}
+
+// Refusals 6 and 12 of a partition, where a taxon is in none before it.
+fn unseen_partitions() {
+    let mut j = [0u8; 1024];
+    let a = begun_unseen(&mut j);
+    let b = part(&mut j, a, 96);
+    run(76, b"taxon 5 unseen, then bit 6", &j, b);
+    let c = byte(&mut j, a, 3);
+    run(77, b"taxon 5 unseen, then the tag of a partition", &j, c);
+    let e = field(&mut j, a, 3, 8, &[0, 0, 0]);
+    run(78, b"taxon 5 unseen, then a partition cut short", &j, e);
+    let f = field(&mut j, a, 3, 7, &[0, 0, 0, 0, 0, 0, 63]);
+    run(79, b"taxon 5 unseen, then one of seven bytes", &j, f);
+    let g = tree(&mut j, 6, 18, &S);
+    let h = times(&mut j, g, 64, &[0, 0, 0, 0, 0, 0, 0, 31]);
+    run(80, b"taxon 5 unseen in 64 partitions", &j, h);
+    let i = part(&mut j, h, 32);
+    run(81, b"the same and a 65th with taxon 5", &j, i);
+    let k = change(&mut j, h, 1, 4, 3, 5);
+    run(82, b"the same 64 and a move", &j, k);
+    let l = times(&mut j, g, 63, &[0, 0, 0, 0, 0, 0, 0, 31]);
+    let m = part(&mut j, l, 32);
+    run(83, b"taxon 5 seen by the 64th alone", &j, m);
+}
+
+// The last of 64 taxa, unseen and then seen.
+fn unseen_last() {
+    let mut j = [0u8; 512];
+    let t = samples::along();
+    let a = tree(&mut j, 64, 250, &t);
+    let b = field(&mut j, a, 3, 8, &[127, 255, 255, 255, 255, 255, 255, 255]);
+    run(84, b"taxon 63 unseen", &j, b);
+    let c = field(&mut j, b, 3, 8, &[128, 0, 0, 0, 0, 0, 0, 0]);
+    let e = change(&mut j, c, 2, 0, 123, 0);
+    run(85, b"taxon 63 seen by the second of two", &j, e);
+    let f = field(&mut j, a, 3, 8, &[255, 255, 255, 255, 255, 255, 255, 254]);
+    run(86, b"taxon 0 unseen", &j, f);
+}
+
 // Runs the cases in the order of the stored output.
 fn main() {
     documents();
@@ -468,4 +540,7 @@ fn main() {
     longest();
     largest();
     savings();
+    unseen();
+    unseen_partitions();
+    unseen_last();
 }

@@ -1,44 +1,76 @@
--- Whether a list of partitions is right, test by test. Assumes nothing.
-use mathlib.Core.Path.{_≡_, sym}
-use mathlib.Core.Bool.{Bool, false, _&&_, and-true, and-assoc}
-use mathlib.Core.List.{List}
-use Prim.Native.Nat.{ℕ, suc, _+_, _^_, _≤_, _<_}
+-- A list of partitions judged by its union, test by test. Assumes nothing.
+use mathlib.Core.Path.{_≡_, sym, ap, _∙_}
+use mathlib.Core.Logic.{_⊎_, inl, inr}
+use mathlib.Core.Bool.{Bool, true, false, not, _&&_, and-true, and-assoc}
+use mathlib.Core.List.{List, [], _∷_}
+use Prim.Native.Nat.{ℕ, _^_, _≤_, _<_}
 use native.Mathlib.Omega.{arith}
-use native.Mathlib.Numerals.{add-one}
 use lib.Bits.{bitOr}
-use lib.Dec.{ltb, leb}
-use lib.ListN.{length, getD, drop}
+use lib.Dec.{eqb, ltb, leb}
 use lib.Pow.{pow-pos}
-use lib.Seq.{drop-cons, drop-length}
-use borrow.Author.Tests.{lt-ltb, le-leb, lt-leb}
+use borrow.Author.Tests.{lt-ltb, ltb-true, le-leb, lt-leb, eqb-true, eq-eqb}
 use Rattle.taxa.specs.Most.{mostPartitions}
-use Rattle.taxa.proofs.Bools.{and-false-r}
-use Rattle.taxa.proofs.Unions.{within-or}
-use Rattle.tree.specs.Refusals.{each}
+use Rattle.taxa.specs.Sets.{has, full, less, joined, union, inSome}
+use Rattle.taxa.proofs.Bools.{either, not-both, and-left, and-right, and-both, and-false-r, bool-eq}
+use Rattle.taxa.proofs.Sets.{has-none, has-ones, has-less, none-zero}
+use Rattle.taxa.proofs.Unions.{within-or, has-union}
+use Rattle.tree.specs.Tree.{every}
+use Rattle.tree.specs.Refusals.{each, allSeen}
+use Rattle.tree.proofs.RowCounts.{every-all, all-every, every-same}
 
-module _ (n : ℕ) (ys : List ℕ) where
-  -- ---- the union of the numbers before place i, and the rest of the list
-  pub each-none : each (λ y. ltb y (2 ^ n)) ys ≡ (ltb 0 (2 ^ n) && each (λ y. ltb y (2 ^ n)) (drop 0 ys))
-  each-none = rw (lt-ltb 0 (2 ^ n) (pow-pos n))
+module _ (n : ℕ) where
+  -- ---- the union of a list
 
-  pub each-next : (all i : ℕ) → i < length ys
-      → (ltb all (2 ^ n) && each (λ y. ltb y (2 ^ n)) (drop i ys)) ≡ (ltb (bitOr all (getD ys i 0)) (2 ^ n) && each (λ y. ltb y (2 ^ n)) (drop (i + 1) ys))
-  unfolding each
-  each-next all i l =
-      rw (drop-cons ys i 0 l, add-one, within-or)
-      (sym (and-assoc (ltb all (2 ^ n)) (ltb (getD ys i 0) (2 ^ n)) (each (λ y. ltb y (2 ^ n)) (drop (suc i) ys))))
+  -- It names none but the n taxa exactly where each set on the list does.
+  within-joined : (s : ℕ) (ys : List ℕ) → ltb (joined s ys) (2 ^ n) ≡ (ltb s (2 ^ n) && each (λ y. ltb y (2 ^ n)) ys)
+  unfolding joined each
+  within-joined s [] = sym (and-true (ltb s (2 ^ n)))
+  within-joined s (y ∷ ys) =
+      let rest : Bool = each (λ z. ltb z (2 ^ n)) ys in
+      within-joined (bitOr s y) ys ∙ ap (λ (b : Bool). b && rest) (within-or n s y) ∙ and-assoc (ltb s (2 ^ n)) (ltb y (2 ^ n)) rest
 
-  pub each-end : (all i : ℕ) → i ≡ length ys → (ltb all (2 ^ n) && each (λ y. ltb y (2 ^ n)) (drop i ys)) ≡ ltb all (2 ^ n)
-  unfolding each
-  each-end all i e = rw (e, drop-length) (and-true (ltb all (2 ^ n)))
+  pub within-union : (ys : List ℕ) → ltb (union ys) (2 ^ n) ≡ each (λ y. ltb y (2 ^ n)) ys
+  within-union ys = within-joined 0 ys ∙ ap (λ (b : Bool). b && each (λ y. ltb y (2 ^ n)) ys) (lt-ltb 0 (2 ^ n) (pow-pos n))
 
-  -- ---- the tests in order
-  pub right-none : length ys ≡ 0 → false ≡ (leb 1 (length ys) && leb (length ys) mostPartitions && each (λ y. ltb y (2 ^ n)) ys)
-  right-none h = rw (lt-leb 1 (length ys) (omega (arith, h)))
+  -- It has each of the n taxa exactly where each is in some set on the list.
+  pub seen-union : (ys : List ℕ) → every (has (union ys)) n ≡ allSeen n ys
+  seen-union ys = every-same (has (union ys)) (inSome ys) n (λ i l. has-union ys i)
 
-  pub right-many : mostPartitions < length ys → false ≡ (leb 1 (length ys) && leb (length ys) mostPartitions && each (λ y. ltb y (2 ^ n)) ys)
-  right-many h = rw (lt-leb (length ys) mostPartitions h, and-false-r (leb 1 (length ys)))
+  -- ---- a set that has each of the n taxa
 
-  pub right-all : (length ys ≡ 0 → ⊥) → length ys ≤ mostPartitions → (b : Bool) → each (λ y. ltb y (2 ^ n)) ys ≡ b
-      → b ≡ (leb 1 (length ys) && leb (length ys) mostPartitions && each (λ y. ltb y (2 ^ n)) ys)
-  right-all d h b e = rw (le-leb 1 (length ys) (omega (arith, d)), le-leb (length ys) mostPartitions h) (sym e)
+  -- Where no taxon is left without it, it has each; and the other way round.
+  pub covers-is : (y : ℕ) → eqb (less (full n) y) 0 ≡ every (has y) n
+  covers-is y = bool-eq (eqb (less (full n) y) 0) (every (has y) n) there back
+    where
+      left : ℕ
+      left = less (full n) y
+
+      there : eqb (less (full n) y) 0 ≡ true → every (has y) n ≡ true
+      there h = all-every (has y) n (λ i l. go i l (either (has y i)))
+        where
+          go : (i : ℕ) → i < n → (has y i ≡ true) ⊎ (has y i ≡ false) → has y i ≡ true
+          go i l (inl w) = w
+          go i l (inr w) =
+              absurd (not-both (has left i) (has-less (full n) y i ∙ and-both (has (full n) i) (not (has y i)) (has-ones n i ∙ lt-ltb i n l) (ap not w))
+              (ap (λ (z : ℕ). has z i) (eqb-true left 0 h) ∙ has-none i))
+
+      back : every (has y) n ≡ true → eqb (less (full n) y) 0 ≡ true
+      back h = eq-eqb left 0 (none-zero left none)
+        where
+          none : (i : ℕ) → has left i ≡ true → ⊥
+          none i w =
+              let both : (has (full n) i && not (has y i)) ≡ true = sym (has-less (full n) y i) ∙ w in
+              let l : i < n = ltb-true i n (sym (has-ones n i) ∙ and-left (has (full n) i) (not (has y i)) both) in
+              not-both (not (has y i)) (and-right (has (full n) i) (not (has y i)) both) (ap not (every-all (has y) n h i l))
+
+-- ---- the tests of 6 in order
+module _ (n count all : ℕ) where
+  pub right-none : count ≡ 0 → false ≡ (leb 1 count && leb count mostPartitions && ltb all (2 ^ n))
+  right-none h = rw (lt-leb 1 count (omega (arith, h)))
+
+  pub right-many : mostPartitions < count → false ≡ (leb 1 count && leb count mostPartitions && ltb all (2 ^ n))
+  right-many h = rw (lt-leb count mostPartitions h, and-false-r (leb 1 count))
+
+  pub right-all : (count ≡ 0 → ⊥) → count ≤ mostPartitions → (b : Bool) → b ≡ ltb all (2 ^ n)
+      → b ≡ (leb 1 count && leb count mostPartitions && ltb all (2 ^ n))
+  right-all d h b e = rw (le-leb 1 count (omega (arith, d)), le-leb count mostPartitions h) e

@@ -1,16 +1,18 @@
 -- What the three calls say at each test of the code. Assumes nothing.
 use mathlib.Core.Path.{_≡_, refl, sym, ap, _∙_}
-use mathlib.Core.Bool.{true, false, _&&_}
-use mathlib.Core.List.{List, [], _++_}
+use mathlib.Core.Bool.{Bool, true, false, _&&_}
+use mathlib.Core.List.{List, [], _∷_, _++_}
 use Prim.Native.Nat.{ℕ, _^_, _≤_, _<_}
 use native.Mathlib.Omega.{arith}
 use lib.Dec.{ltb, leb}
 use lib.ListN.{length}
 use borrow.Author.Tests.{le-leb, lt-leb, leb-true}
 use Rattle.taxa.specs.Most.{mostPartitions}
+use Rattle.taxa.specs.Sets.{has, union}
 use Rattle.taxa.proofs.Bools.{and-left, and-right}
 use Rattle.tree.specs.Splits.{dist, distances}
-use Rattle.tree.specs.Refusals.{Said, gives, refuses, judged, treeChecks, partitionChecks, partitionsChecks, roomChecks, each, treeSaid, written, Accepted}
+use Rattle.tree.specs.Tree.{every}
+use Rattle.tree.specs.Refusals.{_else_, Said, gives, refuses, judged, treeChecks, partitionChecks, allSeen, partitionsChecks, roomChecks, each, treeSaid, written, Accepted}
 use Rattle.tree.proofs.RefusalLaws.{Pass, judged-pass, judged-all, judged-next, judged-fail, refuses-more, refuses-any, accepted-pass, gives-pass}
 use Rattle.table.specs.Says.{numberOf}
 use Rattle.table.proofs.Numbers.{number-one}
@@ -21,7 +23,8 @@ use Rattle.fits.specs.Bytes.{fitSaid}
 use Rattle.judge.specs.declared.Moved.{Moved}
 use Rattle.judge.specs.declared.Judged.{Judged}
 use Rattle.judge.specs.declared.Verdict.{Verdict}
-use Rattle.judge.specs.Promises.{moveSays, done, tableAfter, Applies, judgeSays, howManySame, JudgesAll, verdictSays, JudgesOne, Told}
+use Rattle.judge.specs.Promises.{moveSays, done, tableAfter, Applies, judgeSays, howManySame, JudgesAll, verdictSays, JudgesOne, unionSaid, callSaid, Told}
+use Rattle.judge.proofs.PartitionLaws.{within-union, seen-union}
 
 -- ---- a move alone
 module _ (n : ℕ) (t : List ℕ) (m : Move) where
@@ -45,11 +48,9 @@ module _ (n : ℕ) (t : List ℕ) (m : Move) where
 
 -- ---- a move judged for a list of partitions
 
--- a list that is right passes its check, and each of its partitions is right
+-- Of a list that is right: it is not too long, and each of its partitions is
+-- right.
 module _ (n : ℕ) (ys : List ℕ) where
-  pub right-of : (leb 1 (length ys) && leb (length ys) mostPartitions && each (λ y. ltb y (2 ^ n)) ys) ≡ true → Pass (partitionsChecks n ys)
-  right-of h = (h, tt)
-
   pub few-of : Pass (partitionsChecks n ys) → length ys ≤ mostPartitions
   few-of p =
       leb-true (length ys) mostPartitions
@@ -57,6 +58,37 @@ module _ (n : ℕ) (ys : List ℕ) where
 
   pub each-of : Pass (partitionsChecks n ys) → each (λ y. ltb y (2 ^ n)) ys ≡ true
   each-of p = and-right (leb 1 (length ys) && leb (length ys) mostPartitions) (each (λ y. ltb y (2 ^ n)) ys) (p .0)
+
+-- What the checks of a list and a move say, all being the union of the list.
+module _ (n : ℕ) (t ys : List ℕ) (m : Move) (all : ℕ) (is : all ≡ union ys) where
+  abbrev right : Bool
+  right = leb 1 (length ys) && leb (length ys) mostPartitions && each (λ y. ltb y (2 ^ n)) ys
+
+  abbrev union-right : Bool
+  union-right = leb 1 (length ys) && leb (length ys) mostPartitions && ltb all (2 ^ n)
+
+  by-union : union-right ≡ right
+  by-union = ap (λ (b : Bool). leb 1 (length ys) && leb (length ys) mostPartitions && b) (ap (λ (z : ℕ). ltb z (2 ^ n)) is ∙ within-union n ys)
+
+  pub call-6 : union-right ≡ false → refuses 6 ≡ callSaid n t ys m
+  call-6 h = sym (judged-fail right 6 ((allSeen n ys else 16) ∷ moveChecks n t m) tt (sym by-union ∙ h))
+
+  module _ (h : union-right ≡ true) where
+    past : callSaid n t ys m ≡ judged ((every (has all) n else 16) ∷ moveChecks n t m) tt
+    past =
+        judged-next right 6 ((allSeen n ys else 16) ∷ moveChecks n t m) tt (sym by-union ∙ h)
+        ∙ ap (λ (b : Bool). judged ((b else 16) ∷ moveChecks n t m) tt) (sym (ap (λ (z : ℕ). every (has z) n) is ∙ seen-union n ys))
+
+    pub call-16 : (r : ℕ) → unionSaid n all ≡ refuses r → refuses r ≡ callSaid n t ys m
+    call-16 r w = sym (past ∙ refuses-more ((every (has all) n else 16) ∷ []) (moveChecks n t m) (tt {0}) tt r w)
+
+    pub call-move : unionSaid n all ≡ gives tt → fitSaid n t m ≡ callSaid n t ys m
+    call-move w = sym (past ∙ judged-next (every (has all) n) 16 (moveChecks n t m) tt (gives-pass ((every (has all) n else 16) ∷ []) tt tt w .0))
+
+-- Where they refuse nothing, the list passes and the move passes.
+module _ (n : ℕ) (t ys : List ℕ) (m : Move) where
+  pub call-passes : callSaid n t ys m ≡ gives tt → Pass (partitionsChecks n ys) × Pass (moveChecks n t m)
+  call-passes h = let p = gives-pass (partitionsChecks n ys ++ moveChecks n t m) tt tt h in ((p .0, (p .1 .0, tt)), p .1 .1)
 
 module _ (n : ℕ) (t ys : List ℕ) (m : Move) (out : List ℕ) where
   not-judged : (r : Refusal) → judgedSaid n t ys m (length out) ≡ refuses (numberOf r) → JudgesAll n t ys m out (Judged.Refused r) out
@@ -70,17 +102,13 @@ module _ (n : ℕ) (t ys : List ℕ) (m : Move) (out : List ℕ) where
     past-5 : judgedSaid n t ys m (length out) ≡ judged (partitionsChecks n ys ++ moveChecks n t m ++ roomChecks (length ys) (length out)) (distances n t (moved n t m) ys)
     past-5 = judged-pass (treeChecks n t) (partitionsChecks n ys ++ moveChecks n t m ++ roomChecks (length ys) (length out)) (distances n t (moved n t m) ys) (accepted-pass n t good)
 
-    pub judges-6 : (leb 1 (length ys) && leb (length ys) mostPartitions && each (λ y. ltb y (2 ^ n)) ys) ≡ false → JudgesAll n t ys m out (Judged.Refused Refusal.Partition) out
-    judges-6 h =
-        not-judged Refusal.Partition (past-5 ∙ judged-fail (leb 1 (length ys) && leb (length ys) mostPartitions && each (λ y. ltb y (2 ^ n)) ys) 6
-        (moveChecks n t m ++ roomChecks (length ys) (length out)) (distances n t (moved n t m) ys) h)
+    pub judges-unfit : (r : Refusal) → callSaid n t ys m ≡ refuses (numberOf r) → JudgesAll n t ys m out (Judged.Refused r) out
+    judges-unfit r h =
+        not-judged r (past-5 ∙ refuses-more (partitionsChecks n ys ++ moveChecks n t m) (roomChecks (length ys) (length out)) (tt {0}) (distances n t (moved n t m) ys) (numberOf r) h)
 
     module _ (right : Pass (partitionsChecks n ys)) where
       past-6 : judgedSaid n t ys m (length out) ≡ judged (moveChecks n t m ++ roomChecks (length ys) (length out)) (distances n t (moved n t m) ys)
       past-6 = past-5 ∙ judged-pass (partitionsChecks n ys) (moveChecks n t m ++ roomChecks (length ys) (length out)) (distances n t (moved n t m) ys) right
-
-      pub judges-unfit : (r : Refusal) → fitSaid n t m ≡ refuses (numberOf r) → JudgesAll n t ys m out (Judged.Refused r) out
-      judges-unfit r h = not-judged r (past-6 ∙ refuses-more (moveChecks n t m) (roomChecks (length ys) (length out)) (tt {0}) (distances n t (moved n t m) ys) (numberOf r) h)
 
       module _ (fit : Pass (moveChecks n t m)) where
         past-10 : judgedSaid n t ys m (length out) ≡ judged (roomChecks (length ys) (length out)) (distances n t (moved n t m) ys)

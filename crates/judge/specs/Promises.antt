@@ -2,12 +2,13 @@
 -- the lent table or list.
 use Prim.Native.Nat.{ℕ}
 use mathlib.Core.Path.{_≡_}
-use mathlib.Core.List.{List, _++_}
+use mathlib.Core.List.{List, [], _∷_, _++_}
 use lib.Dec.{eqb}
 use lib.ListN.{length, drop}
-use Rattle.taxa.specs.Sets.{pick}
-use Rattle.tree.specs.Tree.{lo, hi, far}
-use Rattle.tree.specs.Refusals.{Said, gives, refuses, written, Accepted}
+use Rattle.taxa.specs.Sets.{pick, has}
+use Rattle.tree.specs.Tree.{lo, hi, far, every}
+use Rattle.tree.specs.Refusals.{_else_, Said, gives, refuses, judged, written}
+use Rattle.tree.specs.Refusals.{partitionsChecks, Accepted}
 use Rattle.tree.proofs.RefusalLaws.{Pass}
 use Rattle.table.specs.Says.{numberOf}
 use Rattle.near.specs.Near.{Near}
@@ -19,7 +20,7 @@ use Rattle.rules.specs.Each.{zeros}
 use Rattle.judge.specs.declared.Moved.{Moved}
 use Rattle.judge.specs.declared.Moved.the-variants as moved
 use Rattle.judge.specs.declared.Judged.{Judged}
-use Rattle.judge.specs.declared.Judged.the-variants as judged
+use Rattle.judge.specs.declared.Judged.the-variants as judgement
 use Rattle.judge.specs.declared.Verdict.{Verdict}
 use Rattle.judge.specs.declared.Verdict.the-variants as verdict
 
@@ -49,8 +50,8 @@ pub record Applies (n : ℕ) (t : List ℕ) (m : Move) (r : Moved) (t′ : List 
 -- What each answer says, and what the call says: how many of the distances are
 -- 0.
 abbrev pub judgeSays : Judged → Said ℕ
-judgeSays (judged.Same k) = gives k
-judgeSays (judged.Refused r) = refuses (numberOf r)
+judgeSays (judgement.Same k) = gives k
+judgeSays (judgement.Refused r) = refuses (numberOf r)
 
 abbrev pub howManySame : Said (List ℕ) → Said ℕ
 howManySame (gives ds) = gives (zeros ds)
@@ -70,6 +71,15 @@ pub record JudgesOne (n : ℕ) (t : List ℕ) (y : ℕ) (m : Move) (r : Verdict)
   pub says : verdictSays r ≡ judgedOneSaid n t y m
 
 -- ---- between the functions
+
+-- What 16 says where the union of the partitions is known.
+abbrev pub unionSaid : ℕ → ℕ → Said (Unit {0})
+unionSaid n all = judged ((every (has all) n else 16) ∷ []) tt
+
+-- What the checks of a list of partitions and of a move say: 6, 16, and 7 to
+-- 10.
+abbrev pub callSaid : ℕ → List ℕ → List ℕ → Move → Said (Unit {0})
+callSaid n t ys m = judged (partitionsChecks n ys ++ moveChecks n t m) tt
 
 -- A tree with its rows at each node and its sides, and a move that no check
 -- refuses.

@@ -6,16 +6,18 @@ ghost use mathlib.Core.Bool.{true, _&&_};
 ghost use lib.Dec.{ltb, leb};
 ghost use lib.ListN.{length};
 ghost use Rattle.taxa.specs.Most.{most, mostPartitions};
+ghost use Rattle.taxa.specs.Sets.{has};
+ghost use Rattle.tree.specs.Tree.{every};
 ghost use Rattle.tree.specs.Splits.{dist, distances};
-ghost use Rattle.tree.specs.Refusals.{Accepted, each, partitionsChecks};
+ghost use Rattle.tree.specs.Refusals.{Accepted, each, allSeen, partitionsChecks};
 ghost use Rattle.tree.proofs.RefusalLaws.{Pass};
 ghost use Rattle.near.specs.Near.{Near};
 ghost use Rattle.sides.specs.Filled.{Sides};
 ghost use Rattle.sides.specs.Filled.{Sides};
 ghost use Rattle.moves.specs.Moves as moves_spec;
 ghost use Rattle.walks.specs.Way.{Listed, room};
-ghost use Rattle.fits.specs.Bytes.{moveOf};
-ghost use Rattle.judge.specs.Promises.{Applies, JudgesAll, JudgesOne, Fit, Told, firstGroups, secondGroups};
+ghost use Rattle.fits.specs.Bytes.{moveOf, fittedSays};
+ghost use Rattle.judge.specs.Promises.{Applies, JudgesAll, JudgesOne, unionSaid, callSaid, Fit, Told, firstGroups, secondGroups};
 use fits::Fitted;
 use fits::Move;
 use table::Checked;
@@ -167,25 +169,62 @@ pub fn judge_groups(
     rules::distance_each(m.kind == 1, &gs[..k], &hs[..j], ys, out)
 }
 
-// Whether a list of partitions has one at least and not too many, and none
-// names a taxon n or above: their union is tested once.
-pub fn partitions_right(n: usize, ys: &[u64]) -> bool
+// Whether there is one partition at least and not too many, and their union
+// names no taxon n or above.
+fn partitions_right(n: usize, count: usize, all: u64) -> bool
     requires { ⌜ (4 ≤ n) × (n ≤ most) ⌝ }
-    ensures { λ b. ⌜ b ≡ (leb 1 (length (now (ys .entry))) && leb (length (now (ys .entry))) mostPartitions && each (λ y. ltb y (2 ^ n)) (now (ys .entry))) ⌝ }
+    ensures { λ b. ⌜ b ≡ (leb 1 count && leb count mostPartitions && ltb all (2 ^ n)) ⌝ }
 {
-    if ys.len() == 0 {
+    if count == 0 {
         return false;
     }
-    if PARTITIONS < ys.len() {
+    if PARTITIONS < count {
         return false;
-    }
-    let mut all: u64 = 0;
-    let mut i: usize = 0;
-    while i < ys.len() {
-        all |= ys[i];
-        i += 1;
     }
     taxa::within(all, n)
+}
+
+// Whether each of the n taxa is in y.
+fn covers(n: usize, y: u64) -> bool
+    requires { ⌜ (4 ≤ n) × (n ≤ most) ⌝ }
+    ensures { λ b. ⌜ b ≡ every (has y) n ⌝ }
+{
+    taxa::less(taxa::full(n), y) == 0
+}
+
+// Whether each of the n taxa is in some partition on a list.
+pub fn all_seen(n: usize, ys: &[u64]) -> bool
+    requires { ⌜ (4 ≤ n) × (n ≤ most) ⌝ }
+    ensures { λ b. ⌜ b ≡ allSeen n (now (ys .entry)) ⌝ }
+{
+    covers(n, taxa::union(ys))
+}
+
+// Whether each of the n taxa is in the union of the partitions: refusal 16.
+fn union_fits(n: usize, all: u64) -> Fitted
+    requires { ⌜ (4 ≤ n) × (n ≤ most) ⌝ }
+    ensures { λ r. ⌜ fittedSays r ≡ unionSaid n all ⌝ }
+{
+    if !covers(n, all) {
+        return Fitted::Refused(Refusal::Unseen);
+    }
+    Fitted::Fits
+}
+
+// Whether a list of partitions and a move fit a tree: refusal 6, 16, and 7 to
+// 10. The union of the partitions is found once.
+pub fn call_fits(n: usize, t: &[u8], s: &[u64], ys: &[u64], m: Move) -> Fitted
+    requires { ⌜ (Accepted n (now t)) × (Sides n (now t) (now s)) ⌝ }
+    ensures { λ r. ⌜ fittedSays r ≡ callSaid n (now (t .entry)) (now (ys .entry)) (moveOf m) ⌝ }
+{
+    let all = taxa::union(ys);
+    if !partitions_right(n, ys.len(), all) {
+        return Fitted::Refused(Refusal::Partition);
+    }
+    match union_fits(n, all) {
+        Fitted::Refused(r) => Fitted::Refused(r),
+        Fitted::Fits => fits::fit_of(n, t, s, m),
+    }
 }
 
 // The judgement of a tree's move that fits, where the partitions are right:
@@ -208,7 +247,7 @@ fn judge_fit(
     Judged::Same(judge_groups(n, t, near, s, ys, m, out))
 }
 
-// The judgement of a tree's move: refusals 6 to 11.
+// The judgement of a tree's move: refusals 6, 16, and 7 to 11.
 fn judge_tree(
     n: usize,
     t: &[u8],
@@ -221,18 +260,14 @@ fn judge_tree(
     requires { ⌜ (Accepted n (now t)) × (Near n (now t) (now near)) × (Sides n (now t) (now s)) ⌝ }
     ensures { λ r. ⌜ JudgesAll n (now (t .entry)) (now (ys .entry)) (moveOf m) (now (out .entry)) r (now (out .exit)) ⌝ }
 {
-    if !partitions_right(n, ys) {
-        return Judged::Refused(Refusal::Partition);
-    }
-    let fit = fits::fit_of(n, t, s, m);
-    match fit {
+    match call_fits(n, t, s, ys, m) {
         Fitted::Refused(r) => Judged::Refused(r),
         Fitted::Fits => judge_fit(n, t, near, s, ys, m, out),
     }
 }
 
 // Judges a move for a list of partitions, the distance of each written into
-// out; the table is not changed. Refusals 1 to 11.
+// out; the table is not changed. Refusals 1 to 11, and 16 after 6.
 pub fn judge_move(n: usize, t: &[u8], ys: &[u64], m: Move, out: &mut [u64]) -> Judged
     ensures { λ r. ⌜ JudgesAll n (now (t .entry)) (now (ys .entry)) (moveOf m) (now (out .entry)) r (now (out .exit)) ⌝ }
 {

@@ -1,22 +1,21 @@
 -- What the call for a move's lines says at each test of the code. Assumes
 -- nothing.
 use mathlib.Core.Path.{_≡_, sym, ap, _∙_}
-use mathlib.Core.Bool.{Bool, true, false, _&&_}
+use mathlib.Core.Bool.{Bool, true, false}
 use mathlib.Core.List.{List, [], _++_}
-use Prim.Native.Nat.{ℕ, _+_, _^_}
+use Prim.Native.Nat.{ℕ, _+_}
 use native.Mathlib.Omega.{arith}
-use lib.Dec.{ltb, leb}
+use lib.Dec.{leb}
 use lib.ListN.{length}
-use Rattle.taxa.specs.Most.{mostPartitions}
 use Rattle.taxa.specs.Sets.{pick}
 use Rattle.tree.specs.Splits.{distances}
-use Rattle.tree.specs.Refusals.{Check, Said, gives, refuses, judged, treeChecks, partitionsChecks, roomChecks, each, treeSaid, Accepted}
+use Rattle.tree.specs.Refusals.{Check, Said, gives, refuses, judged, treeChecks, partitionsChecks, roomChecks, treeSaid, Accepted}
 use Rattle.tree.proofs.RefusalLaws.{Pass, judged-pass, judged-next, judged-fail, refuses-more, accepted-pass}
 use Rattle.table.specs.Says.{numberOf}
 use Rattle.table.proofs.Numbers.{number-one}
 use Rattle.table.specs.declared.Refusal.{Refusal}
 use Rattle.moves.specs.Moves.{Move, moved, moveChecks}
-use Rattle.fits.specs.Bytes.{fitSaid}
+use Rattle.judge.specs.Promises.{callSaid}
 use Rattle.text.specs.Lines.{placed}
 use Rattle.listing.specs.declared.Lines.{Lines}
 use Rattle.listing.specs.Saved.{savedOf}
@@ -48,16 +47,12 @@ module _ (n : ℕ) (t ys : List ℕ) (m : Move) (k : ℕ) (out : List ℕ) (plac
     past-5 : said ≡ judged (partitionsChecks n ys ++ moveChecks n t m ++ roomy) ls
     past-5 = judged-pass (treeChecks n t) (partitionsChecks n ys ++ moveChecks n t m ++ roomy) ls (accepted-pass n t good)
 
-    pub lists-6 : (leb 1 (length ys) && leb (length ys) mostPartitions && each (λ y. ltb y (2 ^ n)) ys) ≡ false → Lists n t ys m k out place (Lines.Refused Refusal.Partition) t out
-    lists-6 h =
-        not-listed Refusal.Partition (past-5 ∙ judged-fail (leb 1 (length ys) && leb (length ys) mostPartitions && each (λ y. ltb y (2 ^ n)) ys) 6 (moveChecks n t m ++ roomy) ls h)
+    pub lists-unfit : (r : Refusal) → callSaid n t ys m ≡ refuses (numberOf r) → Lists n t ys m k out place (Lines.Refused r) t out
+    lists-unfit r h = not-listed r (past-5 ∙ refuses-more (partitionsChecks n ys ++ moveChecks n t m) roomy (tt {0}) ls (numberOf r) h)
 
     module _ (right : Pass (partitionsChecks n ys)) where
       past-6 : said ≡ judged (moveChecks n t m ++ roomy) ls
       past-6 = past-5 ∙ judged-pass (partitionsChecks n ys) (moveChecks n t m ++ roomy) ls right
-
-      pub lists-unfit : (r : Refusal) → fitSaid n t m ≡ refuses (numberOf r) → Lists n t ys m k out place (Lines.Refused r) t out
-      lists-unfit r h = not-listed r (past-6 ∙ refuses-more (moveChecks n t m) roomy (tt {0}) ls (numberOf r) h)
 
       module _ (fit : Pass (moveChecks n t m)) where
         past-10 : said ≡ judged roomy ls

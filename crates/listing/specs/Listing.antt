@@ -35,8 +35,8 @@ moveLines n m ys ds = linesWith m ds (savedOf n ys ds)
 abbrev pub linesOf : ℕ → List ℕ → List ℕ → Move → ℕ → List ℕ
 linesOf n t ys m k = moveLines n k ys (distances n t (moved n t m) ys)
 
--- What the call says: the lines. Refusals 1 to 11; 11 when they do not all fit
--- or the place is past the end.
+-- What the call says: the lines. Refusals 1 to 6, 16, and 7 to 11; 11 when they
+-- do not all fit or the place is past the end.
 abbrev pub linesSaid : ℕ → List ℕ → List ℕ → Move → ℕ → ℕ → ℕ → Said (List ℕ)
 linesSaid n t ys m k room place =
     judged (treeChecks n t ++ partitionsChecks n ys ++ moveChecks n t m ++ roomChecks (place + length (linesOf n t ys m k)) room) (linesOf n t ys m k)

@@ -182,7 +182,7 @@ fn list_fit(
     put_where_room(n, t, near, s, m, number, found, saved, same, out, place)
 }
 
-// The lines of a tree's move: refusals 6 to 11.
+// The lines of a tree's move: refusals 6, 16, and 7 to 11.
 fn list_tree(
     n: usize,
     t: &mut [u8],
@@ -197,18 +197,14 @@ fn list_tree(
     requires { ⌜ (Accepted n (now t)) × (Near n (now t) (now near)) × (Sides n (now t) (now s)) ⌝ }
     ensures { λ r. ⌜ Lists n (now (t .entry)) (now (ys .entry)) (moveOf m) number (now (out .entry)) place r (now (t .exit)) (now (out .exit)) ⌝ }
 {
-    if !judge::partitions_right(n, ys) {
-        return Lines::Refused(Refusal::Partition);
-    }
-    let fit = fits::fit_of(n, t, s, m);
-    match fit {
+    match judge::call_fits(n, t, s, ys, m) {
         Fitted::Refused(r) => Lines::Refused(r),
         Fitted::Fits => list_fit(n, t, near, s, ys, m, number, out, place),
     }
 }
 
 // Makes a move on a table and writes its lines, under the number stated, into
-// out from the place on. Refusals 1 to 11.
+// out from the place on. Refusals 1 to 11, and 16 after 6.
 pub fn list_move(
     n: usize,
     t: &mut [u8],

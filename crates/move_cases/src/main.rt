@@ -164,13 +164,14 @@ fn alone(n: usize, t: &[u8], y: u64, m: Move) -> u64 {
     }
 }
 
-// A line for a refused move: the number that each of the three calls says,
-// then whether the table and the list are as their copies.
-fn refuse(n: usize, copy: &[u8], t: &mut [u8], m: Move, words: &[u8]) {
+// A line for a refused move: the number that each of the three calls says, all
+// being the set of the taxa, then whether the table and the list are as their
+// copies.
+fn refuse(n: usize, all: u64, copy: &[u8], t: &mut [u8], m: Move, words: &[u8]) {
     let mut out = [MARK; 2];
     say(applied(n, t, m));
     put(b"applied, ");
-    say(judged(n, t, &[15, 3], m, &mut out));
+    say(judged(n, t, &[all, 3], m, &mut out));
     put(b"judged, ");
     say(alone(n, t, 15, m));
     put(b"alone, table ");
@@ -183,7 +184,7 @@ fn refuse(n: usize, copy: &[u8], t: &mut [u8], m: Move, words: &[u8]) {
 // The same for the table of tree S, where n is what the call is told.
 fn refuse_as(n: usize, m: Move, words: &[u8]) {
     let mut t = S;
-    refuse(n, &S, &mut t, m, words);
+    refuse(n, 63, &S, &mut t, m, words);
 }
 
 // The same for a move on tree S.
@@ -334,10 +335,11 @@ fn sizes() {
     refuse_as(3, nni(4, 3, 5), b"three taxa");
     refuse_as(65, nni(4, 3, 5), b"65 taxa");
     refuse_as(0, four(0, 9, 9, 9), b"no taxa and kind 0");
-    refuse(6, &S[..17], &mut t[..17], spr(0, 7), b"a byte too few");
+    refuse(6, 63, &S[..17], &mut t[..17], spr(0, 7), b"a byte too few");
     refuse_as(5, tbr(4, 0, 7), b"a table for one taxon more");
     refuse(
         6,
+        63,
         &[],
         &mut [],
         four(0, 9, 9, 9),
@@ -348,12 +350,19 @@ fn sizes() {
 // Refusals 3 to 5 of the table, before those of the move.
 fn no_trees() {
     let mut t = S_TURNED;
-    refuse(6, &S_TURNED, &mut t, spr(0, 7), b"the larger end first");
+    refuse(6, 63, &S_TURNED, &mut t, spr(0, 7), b"the larger end first");
     let mut u = S_TWICE;
-    refuse(6, &S_TWICE, &mut u, tbr(4, 0, 7), b"taxon 1 at two rows");
+    refuse(
+        6,
+        63,
+        &S_TWICE,
+        &mut u,
+        tbr(4, 0, 7),
+        b"taxon 1 at two rows",
+    );
     let mut v = APART;
-    refuse(4, &APART, &mut v, nni(2, 1, 3), b"an unreached node");
-    refuse(4, &APART, &mut v, spr(0, 9), b"the same and SPR 0,9");
+    refuse(4, 15, &APART, &mut v, nni(2, 1, 3), b"an unreached node");
+    refuse(4, 15, &APART, &mut v, spr(0, 9), b"the same and SPR 0,9");
 }
 
 // Refusal 6: a list of partitions, or one of them, is not right.
@@ -372,12 +381,50 @@ fn partitions() {
     one(6, &S[..17], 64, m, b"a byte too few and bit 6");
 }
 
+// Refusal 16: a taxon is in no partition on the list, and after which refusals
+// and before which it is given.
+fn unseen() {
+    let m = nni(4, 3, 5);
+    let none = four(0, 9, 9, 9);
+    each_s(&[31, 15], m, 2, b"taxon 5 unseen");
+    each_s(&[62, 14], m, 2, b"taxon 0 unseen");
+    each_s(&[55, 3], m, 2, b"taxon 3 unseen");
+    each_s(&[0], m, 1, b"no taxon seen");
+    each_s(&[31; 64], none, 0, b"taxon 5 unseen, kind 0 and no room");
+    each_s(&[31], spr(0, 9), 1, b"taxon 5 unseen and SPR 0,9");
+    each_s(&[31], spr(0, 0), 1, b"taxon 5 unseen and SPR 0,0");
+    each_s(&[31], spr(0, 1), 1, b"taxon 5 unseen and SPR 0,1");
+    each_s(&[31, 64], m, 2, b"taxon 5 unseen and bit 6");
+    each_s(&[31; 65], m, 65, b"taxon 5 unseen in 65 partitions");
+    one(6, &S, 31, m, b"NNI 4,3,5 over 0 to 4 alone");
+}
+
+// Lists in which each taxon is seen, if only once.
+fn seen() {
+    let m = nni(4, 3, 5);
+    each_s(&[31, 0, 32], m, 3, b"taxon 5 seen by the last alone");
+    each_s(&[1, 62], m, 2, b"taxon 0 seen by the first alone");
+    each_s(&[1, 2, 4, 8, 16, 32], m, 6, b"each taxon seen once");
+    each_s(&[31, 32], four(0, 9, 9, 9), 2, b"all seen and kind 0");
+}
+
+// The same on the largest tree, where the last taxon is bit 63.
+fn last_taxon(t: &[u8]) {
+    let most = 9223372036854775807;
+    let last = 9223372036854775808;
+    let m = spr(0, 123);
+    let copy = [MARK; 2];
+    let mut out = copy;
+    each(64, t, &[most, 15], m, &copy, &mut out, b"taxon 63 unseen");
+    each(64, t, &[most, last], m, &copy, &mut out, b"taxon 63 seen");
+}
+
 // Refusal 11: the room for the distances, after all else.
 fn room() {
     let ys = [63, 29, 51, 0];
     each_s(&ys, nni(4, 3, 5), 3, b"four partitions, room for three");
     each_s(&ys, nni(4, 3, 5), 0, b"four partitions, no room");
-    each_s(&[0], spr(0, 7), 0, b"one partition, no room");
+    each_s(&[63], spr(0, 7), 0, b"one partition, no room");
     each_s(&[63; 64], tbr(4, 0, 7), 63, b"64 partitions, room for 63");
     each_s(&ys, four(4, 4, 3, 5), 3, b"kind 4, room for three");
     each_s(&ys, spr(0, 9), 3, b"SPR 0,9, room for three");
@@ -391,8 +438,8 @@ fn smallest() {
     one(4, &t, 15, nni(2, 1, 3), b"four taxa, NNI 2,1,3 over all");
     one(4, &t, 14, nni(2, 1, 3), b"the same over 1, 2, 3");
     one(4, &t, 15, spr(0, 3), b"four taxa, SPR 0,3 over all");
-    refuse(4, &FOUR, &mut t, tbr(2, 0, 3), b"four taxa, TBR 2,0,3");
-    refuse(4, &FOUR, &mut t, spr(0, 5), b"four taxa, SPR 0,5");
+    refuse(4, 15, &FOUR, &mut t, tbr(2, 0, 3), b"four taxa, TBR 2,0,3");
+    refuse(4, 15, &FOUR, &mut t, spr(0, 5), b"four taxa, SPR 0,5");
     apply(
         4,
         &FOUR,
@@ -420,8 +467,10 @@ fn largest() {
     let copy = along();
     let mut t = along();
     far(&t);
-    refuse(64, &copy, &mut t, spr(0, 125), b"SPR 0,125");
-    refuse(64, &copy, &mut t, spr(0, 2), b"SPR 0,2");
+    last_taxon(&t);
+    let all = 18446744073709551615;
+    refuse(64, all, &copy, &mut t, spr(0, 125), b"SPR 0,125");
+    refuse(64, all, &copy, &mut t, spr(0, 2), b"SPR 0,2");
     apply(64, &copy, &mut t, spr(0, 123), b"64 taxa, after SPR 0,123");
 }
 
@@ -439,6 +488,8 @@ fn main() {
     sizes();
     no_trees();
     partitions();
+    unseen();
+    seen();
     room();
     smallest();
     largest();

@@ -12,8 +12,8 @@ use Rattle.moves.specs.Moves.{Move, moved, moveChecks}
 abbrev pub movedSaid : ℕ → List ℕ → Move → Said (List ℕ)
 movedSaid n t m = judged (treeChecks n t ++ moveChecks n t m) (moved n t m)
 
--- A move judged for a list of partitions: a distance for each. Refusals 1 to
--- 11.
+-- A move judged for a list of partitions: a distance for each. Refusals 1 to 6,
+-- 16, and 7 to 11.
 abbrev pub judgedSaid : ℕ → List ℕ → List ℕ → Move → ℕ → Said (List ℕ)
 judgedSaid n t ys m room =
     judged (treeChecks n t ++ partitionsChecks n ys ++ moveChecks n t m ++ roomChecks (length ys) room) (distances n t (moved n t m) ys)

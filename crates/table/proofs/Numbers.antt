@@ -5,7 +5,7 @@ use Prim.Native.Nat.{ℕ, zero, suc}
 use native.Mathlib.Omega.{arith}
 use Rattle.table.specs.Says.{numberOf, checkSays}
 use Rattle.table.specs.declared.Refusal.{Refusal}
-use Rattle.table.specs.declared.Refusal.the-variants.{Count, Length, Ends, Degree, Unreached, Partition, Kind, Row, Misfit, Idle, Room, Field, Long, Text}
+use Rattle.table.specs.declared.Refusal.the-variants.{Count, Length, Ends, Degree, Unreached, Partition, Kind, Row, Misfit, Idle, Room, Field, Long, Text, Unseen}
 use Rattle.table.specs.declared.Checked.{Checked}
 use Rattle.table.specs.declared.Checked.the-variants.{Tree, Refused}
 
@@ -25,7 +25,8 @@ refusalOf (suc (suc (suc (suc (suc (suc (suc (suc (suc (suc zero)))))))))) = Idl
 refusalOf (suc (suc (suc (suc (suc (suc (suc (suc (suc (suc (suc zero))))))))))) = Room
 refusalOf (suc (suc (suc (suc (suc (suc (suc (suc (suc (suc (suc (suc zero)))))))))))) = Field
 refusalOf (suc (suc (suc (suc (suc (suc (suc (suc (suc (suc (suc (suc (suc zero))))))))))))) = Long
-refusalOf (suc (suc (suc (suc (suc (suc (suc (suc (suc (suc (suc (suc (suc (suc k)))))))))))))) = Text
+refusalOf (suc (suc (suc (suc (suc (suc (suc (suc (suc (suc (suc (suc (suc (suc zero)))))))))))))) = Text
+refusalOf (suc (suc (suc (suc (suc (suc (suc (suc (suc (suc (suc (suc (suc (suc (suc k))))))))))))))) = Unseen
 
 back : (r : Refusal) → refusalOf (numberOf r) ≡ r
 unfolding refusalOf
@@ -43,6 +44,7 @@ back Room = refl
 back Field = refl
 back Long = refl
 back Text = refl
+back Unseen = refl
 
 pub number-one : (r s : Refusal) → numberOf r ≡ numberOf s → r ≡ s
 number-one r s h = sym (back r) ∙ ap refusalOf h ∙ back s

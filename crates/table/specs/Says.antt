@@ -8,6 +8,7 @@ use Rattle.table.specs.declared.Refusal.the-variants.{Unreached}
 use Rattle.table.specs.declared.Refusal.the-variants.{Partition, Kind}
 use Rattle.table.specs.declared.Refusal.the-variants.{Row, Misfit, Idle}
 use Rattle.table.specs.declared.Refusal.the-variants.{Room, Field, Long, Text}
+use Rattle.table.specs.declared.Refusal.the-variants.{Unseen}
 use Rattle.table.specs.declared.Checked.{Checked}
 use Rattle.table.specs.declared.Checked.the-variants.{Tree, Refused}
 
@@ -27,6 +28,7 @@ numberOf Room = 11
 numberOf Field = 12
 numberOf Long = 13
 numberOf Text = 14
+numberOf Unseen = 16
 
 -- What the answer of a check says.
 abbrev pub checkSays : Checked → Said (Unit {0})

@@ -14,7 +14,7 @@ ghost use Rattle.table.specs.Rowed.{Ordered, Counted, hasFrom};
 // The most nodes that a tree has.
 const NODES: usize = 126;
 
-// What a call is refused for, in the order of the documents' numbers, from 1.
+// What a call is refused for, in the order of the documents' numbers.
 pub enum Refusal {
     Count,
     Length,
@@ -30,6 +30,7 @@ pub enum Refusal {
     Field,
     Long,
     Text,
+    Unseen,
 }
 
 // The documents' number of a refusal.
@@ -51,6 +52,7 @@ pub fn number(r: Refusal) -> u8
         Refusal::Field => 12,
         Refusal::Long => 13,
         Refusal::Text => 14,
+        Refusal::Unseen => 16,
     }
 }
 

@@ -2,7 +2,8 @@
 -- is 1. Nothing here knows a width.
 use Prim.Native.Nat.{ℕ, zero, suc, _+_, _/_, _%_, _^_, _-_}
 use mathlib.Core.Path.{_≡_}
-use mathlib.Core.Bool.{Bool, true, false, not}
+use mathlib.Core.Bool.{Bool, true, false, not, _||_}
+use mathlib.Core.List.{List, [], _∷_}
 use lib.Dec.{eqb}
 use lib.Bits.{bitAnd, bitOr, bitXor}
 use lib.Count.{trailingZeros}
@@ -36,6 +37,20 @@ full n = 2 ^ n - 1
 -- s with i
 unfoldable pub add : ℕ → ℕ → ℕ
 add s i = bitOr s (2 ^ i)
+
+-- s with the members of each set on a list
+unfoldable pub joined : ℕ → List ℕ → ℕ
+joined s [] = s
+joined s (y ∷ ys) = joined (bitOr s y) ys
+
+-- the union of the sets on a list
+abbrev pub union : List ℕ → ℕ
+union ys = joined 0 ys
+
+-- i is a member of some set on a list
+unfoldable pub inSome : List ℕ → ℕ → Bool
+inSome [] i = false
+inSome (y ∷ ys) i = has y i || inSome ys i
 
 -- the members of y that are not in s
 unfoldable pub less : ℕ → ℕ → ℕ

@@ -41,6 +41,19 @@ pub fn within(y: u64, n: usize) -> bool
     y <= full(n)
 }
 
+// The union of the sets on a list.
+pub fn union(ys: &[u64]) -> u64
+    ensures { λ r. ⌜ r ≡ sets.union (now (ys .entry)) ⌝ }
+{
+    let mut all: u64 = 0;
+    let mut i: usize = 0;
+    while i < ys.len() {
+        all |= ys[i];
+        i += 1;
+    }
+    all
+}
+
 // The members of y that are not in s.
 pub fn less(y: u64, s: u64) -> u64
     ensures { λ r. ⌜ r ≡ sets.less y s ⌝ }

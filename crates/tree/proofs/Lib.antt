@@ -11,6 +11,7 @@ pub mod RowCounts
 pub mod RowsAt
 pub mod Forks
 pub mod RefusalLaws
+pub mod Seen
 pub mod ListCounts
 pub mod Growth
 pub mod DoubleLift

@@ -21,6 +21,11 @@ abbrev pub Pass : List Check → Type 0
 Pass [] = Unit {0}
 Pass ((b else k) ∷ cs) = (b ≡ true) × Pass cs
 
+-- of checks that all pass the later ones pass
+pub pass-after : (cs ds : List Check) → Pass (cs ++ ds) → Pass ds
+pass-after [] ds p = p
+pass-after ((b else r) ∷ cs) ds p = pass-after cs ds (p .1)
+
 module _ {A : Type 0} where
   pub judged-pass : (cs ds : List Check) (a : A) → Pass cs → judged (cs ++ ds) a ≡ judged ds a
   unfolding judged

@@ -6,6 +6,7 @@ use mathlib.Core.List.{List, [], _∷_, _++_}
 use lib.Dec.{eqb, ltb, leb}
 use lib.ListN.{length, drop}
 use Rattle.taxa.specs.Most.{most, mostPartitions}
+use Rattle.taxa.specs.Sets.{inSome}
 use Rattle.tree.specs.Tree.{rows, nodes, inOrder, rightDegree, fromZero}
 use Rattle.tree.specs.Tree.{every, Valid}
 
@@ -62,11 +63,17 @@ unfoldable pub each : (ℕ → Bool) → List ℕ → Bool
 each f [] = true
 each f (y ∷ ys) = f y && each f ys
 
+-- Each of the n taxa is in some partition on a list.
+abbrev pub allSeen : ℕ → List ℕ → Bool
+allSeen n ys = every (inSome ys) n
+
 -- 6, of a list of partitions: it has none or too many, or one of them names a
--- taxon n or above.
+-- taxon n or above. Then 16: a taxon is in no partition.
 abbrev pub partitionsChecks : ℕ → List ℕ → List Check
 partitionsChecks n ys =
-    ((leb 1 (length ys) && leb (length ys) mostPartitions && each (λ y. ltb y (2 ^ n)) ys) else 6) ∷ []
+    ((leb 1 (length ys) && leb (length ys) mostPartitions && each (λ y. ltb y (2 ^ n)) ys) else 6)
+    ∷ (allSeen n ys else 16)
+    ∷ []
 
 -- 11: the lent output, which holds `room` numbers, is too short for an answer
 -- of `need`.

@@ -1,14 +1,13 @@
 -- The refusal number of each C answer is 0 exactly when the call gives its
--- answer, and else from 1 to 14. Assumes nothing.
+-- answer, and else one of 1 to 14 or 16. Assumes nothing.
 use mathlib.Core.Path.{_≡_, refl, sym, ap, _∙_, subst}
 use mathlib.Core.Logic.{_↔_}
-use mathlib.Core.Bool.{Bool, true, false, _&&_}
+use mathlib.Core.Bool.{Bool, true, false, _&&_, _||_, false≢true}
 use mathlib.Core.List.{List, [], _∷_, _++_}
-use Prim.Native.Nat.{ℕ, _+_, _*_, _≤_}
+use Prim.Native.Nat.{ℕ, _+_, _*_}
 use native.Mathlib.Omega.{arith}
 use lib.Dec.{eqb, ltb, leb}
 use lib.ListN.{length, getD}
-use borrow.Author.Tests.{leb-true}
 use Rattle.taxa.specs.Sets.{pick}
 use Rattle.taxa.proofs.Bools.{and-left, and-right}
 use Rattle.tree.specs.Tree.{rows}
@@ -20,7 +19,7 @@ use Rattle.splits.specs.Promises.{inducedSaid, howMany, comparedSaid}
 use Rattle.judge.specs.Promises.{done, howManySame}
 use Rattle.listing.specs.Listing.{linesOf, linesSaid, placeAfter}
 use Rattle.fields.specs.Fields.{tagAt, statedAt, contentAt, numberIn, moveIn, allowed, headed, complete, lengthChecks}
-use Rattle.job.specs.Job.{Known, Outcome, next, over, stop, after, taxaField, tableField, partitionField, moveField, withTaxa, withTable, withPartition, withMove, taxaStep, tableStep, partitionStep, moveStep, fieldOf, field, longest}
+use Rattle.job.specs.Job.{Known, Outcome, next, over, stop, after, taxaField, tableField, partitionField, moveField, withTaxa, withTable, withPartition, withMove, taxaStep, tableStep, partitionStep, moveStep, fieldOf, seenSoFar, endStep, tagStep, field, longest}
 use Rattle.job.specs.Steps.{knownOf, stateChecks, stateSaid, fitting, stepped, toldOf}
 use Rattle.job.specs.declared.State.{State}
 use Rattle.reader.specs.Promises as reader
@@ -30,41 +29,39 @@ use Rattle.tusvlane.specs.declared.Comparison.{Comparison}
 use Rattle.tusvlane.specs.declared.Placed.{Placed}
 use Rattle.tusvlane.specs.declared.StepAnswer.{StepAnswer}
 use Rattle.tusvlane.specs.Answers.{codeOf, answerOf, comparisonOf, placedOf, stepAnswerOf}
-use Rattle.tusvlane.specs.Numbers.{Given, Numbered, answered, refused, readSaid, stepSaid}
+use Rattle.tusvlane.specs.Numbers.{Given, isNumber, Numbered, answered, refused, readSaid, stepSaid}
 use Rattle.tusvlane.specs.Promises.{Induces, Applies, Judges, Lists, Plants, Steps}
 
 -- ---- the numbers of checks
 
--- Each check on a list has a number from 1 to 14.
+-- Each check on a list has such a number.
 allRanged : List Check → Bool
 allRanged [] = true
-allRanged ((b else k) ∷ cs) = leb 1 k && leb k 14 && allRanged cs
+allRanged ((b else k) ∷ cs) = isNumber k && allRanged cs
 
--- A refusal has a number from 1 to 14.
+-- A refusal has such a number.
 abbrev Ranged : {A : Type 0} → Said A → Type 0
 Ranged (gives a) = Unit {0}
-Ranged (refuses k) = (1 ≤ k) × (k ≤ 14)
+Ranged (refuses k) = isNumber k ≡ true
 
 judged-ranged : {A : Type 0} (cs : List Check) (a : A) → allRanged cs ≡ true → Ranged (judged cs a)
 unfolding judged allRanged
 judged-ranged [] a h = tt
-judged-ranged ((true else k) ∷ cs) a h = judged-ranged cs a (and-right (leb 1 k && leb k 14) (allRanged cs) h)
-judged-ranged ((false else k) ∷ cs) a h =
-    let w = and-left (leb 1 k && leb k 14) (allRanged cs) h in
-    (leb-true 1 k (and-left (leb 1 k) (leb k 14) w), leb-true k 14 (and-right (leb 1 k) (leb k 14) w))
+judged-ranged ((true else k) ∷ cs) a h = judged-ranged cs a (and-right (isNumber k) (allRanged cs) h)
+judged-ranged ((false else k) ∷ cs) a h = and-left (isNumber k) (allRanged cs) h
 
 -- A number that is 0 for an answer, and a refusal's own for a refusal, stands
 -- for what the call says.
 stands-for : {A : Type 0} (f : Said A → ℕ) → ((a : A) → f (gives a) ≡ 0) → ((k : ℕ) → f (refuses k) ≡ k) → (s : Said A) → Ranged s → (k : ℕ) → k ≡ f s → Numbered s k
 stands-for f z e (gives a) w k h = answered a refl (h ∙ z a)
-stands-for f z e (refuses j) w k h = let i : k ≡ j = h ∙ e j in refused (ap refuses (sym i)) (omega (arith, w .0)) (omega (arith, w .1))
+stands-for f z e (refuses j) w k h = let i : k ≡ j = h ∙ e j in refused (ap refuses (sym i)) (ap isNumber i ∙ w)
 
 -- So it is 0 exactly when the call gives its answer.
 pub zero-iff : {A : Type 0} (s : Said A) (k : ℕ) → Numbered s k → (k ≡ 0) ↔ Given s
 zero-iff (gives a) k (answered b e z) = (λ h. tt, λ g. z)
 zero-iff (refuses j) k (answered b e z) = absurd (let w : _≡_ {A = ℕ} 0 1 = cc in omega arith)
-zero-iff (gives a) k (refused e l m) = absurd (let w : _≡_ {A = ℕ} 0 1 = cc in omega arith)
-zero-iff (refuses j) k (refused e l m) = (λ h. absurd (omega arith), λ g. absurd g)
+zero-iff (gives a) k (refused e l) = absurd (let w : _≡_ {A = ℕ} 0 1 = cc in omega arith)
+zero-iff (refuses j) k (refused e l) = (λ h. absurd (false≢true (sym (ap isNumber h) ∙ l)), λ g. absurd g)
 
 -- ---- the calls
 module _ (n : ℕ) (t : List ℕ) where
@@ -112,22 +109,22 @@ module _ (n : ℕ) (t : List ℕ) where
 
 -- ---- the text
 ranged-read : (n : ℕ) (s : List ℕ) (room : ℕ) (h : Heard (List ℕ)) → Reads n s room h → Ranged (readSaid h)
-ranged-read n s room h (of-count w e) = subst (λ (x : Heard (List ℕ)). Ranged (readSaid x)) (sym e) (omega arith, omega arith)
-ranged-read n s room h (of-text w p g e) = subst (λ (x : Heard (List ℕ)). Ranged (readSaid x)) (sym e) (omega arith, omega arith)
-ranged-read n s room h (of-room w g l e) = subst (λ (x : Heard (List ℕ)). Ranged (readSaid x)) (sym e) (omega arith, omega arith)
+ranged-read n s room h (of-count w e) = subst (λ (x : Heard (List ℕ)). Ranged (readSaid x)) (sym e) refl
+ranged-read n s room h (of-text w p g e) = subst (λ (x : Heard (List ℕ)). Ranged (readSaid x)) (sym e) refl
+ranged-read n s room h (of-room w g l e) = subst (λ (x : Heard (List ℕ)). Ranged (readSaid x)) (sym e) refl
 ranged-read n s room h (of-tree w o g l e) = subst (λ (x : Heard (List ℕ)). Ranged (readSaid x)) (sym e) tt
 
 read-stands : (h : Heard (List ℕ)) → Ranged (readSaid h) → (k : ℕ) → k ≡ placedOf (told h) .refusal → Numbered (readSaid h) k
 read-stands (reader.gives t) w k e = answered tt refl e
-read-stands (reader.refuses j) w k e = refused (ap refuses (sym e)) (omega (arith, w .0)) (omega (arith, w .1))
-read-stands (refusesAt j p) w k e = refused (ap refuses (sym e)) (omega (arith, w .0)) (omega (arith, w .1))
+read-stands (reader.refuses j) w k e = refused (ap refuses (sym e)) (ap isNumber e ∙ w)
+read-stands (refusesAt j p) w k e = refused (ap refuses (sym e)) (ap isNumber e ∙ w)
 
 pub read-number : (n : ℕ) (s out : List ℕ) (r : Placed) (out′ : List ℕ) (p : Plants n s out r out′) → Numbered (readSaid (p .heard)) (r .refusal)
 read-number n s out r out′ p = read-stands (p .heard) (ranged-read n s (length out) (p .heard) (p .by)) (r .refusal) (ap (λ (a : Placed). a .refusal) (p .says))
 
 -- ---- the step
 
--- Where each way has a number from 1 to 14, so has the one taken.
+-- Where each way has such a number, so has the one taken.
 ranged-pick : (b : Bool) (x y : Outcome) → Ranged (stepSaid x) → Ranged (stepSaid y) → Ranged (stepSaid (pick b x y))
 ranged-pick true x y v w = v
 ranged-pick false x y v w = w
@@ -137,7 +134,7 @@ ranged-after at (gives a) f v w = w a
 ranged-after at (refuses k) f v w = v
 
 ranged-fitting : (at places room : ℕ) (o : Outcome) → Ranged (stepSaid o) → Ranged (stepSaid (fitting at places room o))
-ranged-fitting at places room (next k ls) v = ranged-pick (leb (length (k .parts)) places && leb (length ls) room) (next k ls) (stop 11 at) tt (omega arith, omega arith)
+ranged-fitting at places room (next k ls) v = ranged-pick (leb (length (k .parts)) places && leb (length ls) room) (next k ls) (stop 11 at) tt refl
 ranged-fitting at places room over v = tt
 ranged-fitting at places room (stop k p) v = v
 
@@ -178,19 +175,28 @@ module _ (job : List ℕ) where
         (ranged-pick (eqb tag 2) (tableStep job (k .at) (k .taxa)) (pick (eqb tag 3) (partitionStep job k) (moveStep job k)) (ranged-table (k .at) (k .taxa))
         (ranged-pick (eqb tag 3) (partitionStep job k) (moveStep job k) ranged-partition ranged-move))
 
+    ranged-end : Ranged (stepSaid (endStep (length job) k))
+    unfolding allRanged
+    ranged-end =
+        ranged-after (length job) (judged ((leb 1 (length (k .parts)) else 12) ∷ (seenSoFar k else 16) ∷ []) (tt {0})) (λ u. over)
+        (judged-ranged ((leb 1 (length (k .parts)) else 12) ∷ (seenSoFar k else 16) ∷ []) (tt {0}) refl) (λ u. tt)
+
+    ranged-step : (tag : ℕ) → Ranged (stepSaid (tagStep job k tag))
+    unfolding allRanged
+    ranged-step tag =
+        let cs : List Check = ((eqb tag 3 || seenSoFar k) else 16) ∷ (allowed (k .at) (length (k .parts)) (k .moves) tag else 12) ∷ [] in
+        ranged-after (k .at) (judged cs (tt {0})) (λ u. fieldOf job k tag) (judged-ranged cs (tt {0}) refl) (λ u. ranged-tag tag)
+
     ranged-field : Ranged (stepSaid (field job k))
     unfolding field
     ranged-field =
         let tag : ℕ = tagAt job (k .at) in
-        ranged-pick (leb (length job) (k .at)) (pick (eqb (length (k .parts)) 0) (stop 12 (length job)) over)
-        (pick (allowed (k .at) (length (k .parts)) (k .moves) tag) (fieldOf job k tag) (stop 12 (k .at)))
-        (ranged-pick (eqb (length (k .parts)) 0) (stop 12 (length job)) over (omega arith, omega arith) tt)
-        (ranged-pick (allowed (k .at) (length (k .parts)) (k .moves) tag) (fieldOf job k tag) (stop 12 (k .at)) (ranged-tag tag) (omega arith, omega arith))
+        ranged-pick (leb (length job) (k .at)) (endStep (length job) k) (tagStep job k tag) ranged-end (ranged-step tag)
 
 ranged-stepped : (job : List ℕ) (s : State) (table parts : List ℕ) (room : ℕ) → Ranged (stepSaid (stepped job s table parts room))
 unfolding allRanged
 ranged-stepped job s table parts room =
-    ranged-pick (ltb longest (length job)) (stop 13 0) _ (omega arith, omega arith)
+    ranged-pick (ltb longest (length job)) (stop 13 0) _ refl
     (ranged-after (s .at) (stateSaid s (length table) (length parts)) (λ u. fitting (s .at) (length parts) room (field job (knownOf s table parts)))
     (judged-ranged (stateChecks s (length table) (length parts)) tt refl)
     (λ u. ranged-fitting (s .at) (length parts) room (field job (knownOf s table parts)) (ranged-field job (knownOf s table parts))))
@@ -198,7 +204,7 @@ ranged-stepped job s table parts room =
 step-stands : (o : Outcome) → Ranged (stepSaid o) → (k : ℕ) → k ≡ stepAnswerOf (toldOf o) .refusal → Numbered (stepSaid o) k
 step-stands (next q ls) w k h = answered tt refl h
 step-stands over w k h = answered tt refl h
-step-stands (stop j p) w k h = refused (ap refuses (sym h)) (omega (arith, w .0)) (omega (arith, w .1))
+step-stands (stop j p) w k h = refused (ap refuses (sym h)) (ap isNumber h ∙ w)
 
 pub step-number : (job : List ℕ) (s : State) (table parts out : List ℕ) (r : StepAnswer) (table′ parts′ out′ : List ℕ)
     → Steps (stepped job s table parts (length out)) r table table′ parts parts′ out out′ → Numbered (stepSaid (stepped job s table parts (length out))) (r .refusal)

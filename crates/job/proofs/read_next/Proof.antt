@@ -1,60 +1,109 @@
 -- `job::read_next` meets its contract. Assumes nothing.
 use mathlib.Core.Path.{sym, _∙_}
+use native.Mathlib.Omega.{arith}
 use lib.ListN.{length}
 use borrow.Author.Tests.{not-true, not-false}
 use Rattle.table.specs.declared.Refusal.{Refusal}
-use Rattle.job.proofs.StepLaws.{gives-as, gives-stop, gives-over}
-use Rattle.job.proofs.FieldSteps.{end-12, end-over, tag-12, tag-next}
+use Rattle.job.proofs.StepLaws.{gives-as, gives-stop}
+use Rattle.job.proofs.FieldSteps.{end-gives, tag-16, tag-12, tag-next}
 use borrow.Author.Needs.{needs}
 use Rattle.job.proofs.read_next.Statement.{statement}
 use Rattle.job.proofs.read_next.Tie as tie
 
-returns : tie.Need-returns
-returns c =
-    gives-stop (c .before .before .before .before .before .before .args .table .now) (c .before .before .before .before .before .before .args .parts .now) (c .before .before .before .before .before .before .args .out .now) _ Refusal.Field (length (c .before .before .before .before .before .before .args .job .now)) (end-12 (c .before .before .before .before .before .before .args .job .now) (c .before .before .before .before .before .before .args .s) (c .before .before .before .before .before .before .args .table .now) (c .before .before .before .before .before .before .args .parts .now) (c .before .before .before .before .before .before .pre .1) (length (c .before .before .before .before .before .before .args .out .now)) (c .before .if1 .taken) (c .if2 .taken))
-
-returns-2 : tie.Need-returns-2
-returns-2 c =
-    gives-over (c .before .before .before .before .before .before .args .table .now) (c .before .before .before .before .before .before .args .parts .now) (c .before .before .before .before .before .before .args .out .now) _ (end-over (c .before .before .before .before .before .before .args .job .now) (c .before .before .before .before .before .before .args .s) (c .before .before .before .before .before .before .args .table .now) (c .before .before .before .before .before .before .args .parts .now) (c .before .before .before .before .before .before .pre .1) (length (c .before .before .before .before .before .before .args .out .now)) (c .before .if1 .taken) (c .if2 .left))
-
-shared-slice-read-allowed : tie.Need-shared-slice-read-allowed
-shared-slice-read-allowed c = search needs
-
-allowed-requires : tie.Need-allowed-requires
-allowed-requires c κs = search needs
-
-returns-3 : tie.Need-returns-3
-returns-3 c =
-    gives-stop (c .before .before .before .before .before .before .before .before .args .table .now) (c .before .before .before .before .before .before .before .before .args .parts .now) (c .before .before .before .before .before .before .before .before .args .out .now) _ Refusal.Field (c .before .before .before .before .before .before .before .before .args .s .at) (tag-12 (c .before .before .before .before .before .before .before .before .args .job .now) (c .before .before .before .before .before .before .before .before .args .s) (c .before .before .before .before .before .before .before .before .args .table .now) (c .before .before .before .before .before .before .before .before .args .parts .now) (c .before .before .before .before .before .before .before .before .pre .1) (length (c .before .before .before .before .before .before .before .before .args .out .now)) (c .before .before .before .if1 .left) (sym (c .before .allowed .ensures) ∙ not-true (c .before .allowed .result) (c .if3 .taken)))
-
-read-field-requires : tie.Need-read-field-requires
-read-field-requires c κs =
-    (c .before .before .before .before .before .before .if1 .left, c .before .before .before .before .before .before .before .before .before .before .before .pre .0, c .before .before .before .before .before .before .before .before .before .before .before .pre .1, sym (c .before .before .before .before .allowed .ensures) ∙ not-false (c .before .before .before .before .allowed .result) (c .before .before .before .if3 .left))
+read-end-requires : tie.Need-read-end-requires
+read-end-requires c κs =
+    let h = c .before .before .before .before .before .before .pre .1 in
+    (λ l. h .taxa-big (λ e. omega (arith, l, e)), h .taxa-few, h .for-parts)
 
 same-length : tie.Need-same-length
 same-length c = search needs
 
+returns : tie.Need-returns
+returns c =
+    let a = c .before .before .before .before .before .before .before .args in
+    end-gives (a .job .now) (a .s) (a .table .now) (a .parts .now) (length (a .out .now)) (a .out .now) _ (c .before .before .if1 .taken) (c .read-end .ensures)
+
+shared-slice-read-tag : tie.Need-shared-slice-read-tag
+shared-slice-read-tag c = search needs
+
+seen-before-requires : tie.Need-seen-before-requires
+seen-before-requires c κs =
+    let h = c .before .before .before .before .before .before .before .pre .1 in
+    (λ l. h .taxa-big (λ e. omega (arith, l, e)), h .taxa-few, h .for-parts)
+
 same-length-2 : tie.Need-same-length-2
 same-length-2 c = search needs
+
+returns-2 : tie.Need-returns-2
+returns-2 c =
+    let st = c .before .before .before .before .before .before .before .before .before in
+    let a = st .args in
+    let no = sym (c .before .seen-before .ensures) ∙ not-true (c .before .seen-before .result) (c .if2 .taken) in
+    gives-stop (a .table .now) (a .parts .now) (a .out .now) _ Refusal.Unseen (a .s .at)
+    (tag-16 (a .job .now) (a .s) (a .table .now) (a .parts .now) (length (a .out .now)) (st .pre .1) (c .before .before .before .before .if1 .left) no)
+
+allowed-requires : tie.Need-allowed-requires
+allowed-requires c κs = search needs
 
 same-length-3 : tie.Need-same-length-3
 same-length-3 c = search needs
 
+returns-3 : tie.Need-returns-3
+returns-3 c =
+    let two = c .before .before in
+    let st = two .before .before .before .before .before .before .before .before .before in
+    let a = st .args in
+    let yes = sym (two .before .seen-before .ensures) ∙ not-false (two .before .seen-before .result) (two .if2 .left) in
+    let no = sym (c .before .allowed .ensures) ∙ not-true (c .before .allowed .result) (c .if3 .taken) in
+    gives-stop (a .table .now) (a .parts .now) (a .out .now) _ Refusal.Field (a .s .at)
+    (tag-12 (a .job .now) (a .s) (a .table .now) (a .parts .now) (length (a .out .now)) (st .pre .1) (two .before .before .before .before .if1 .left) yes no)
+
+read-field-requires : tie.Need-read-field-requires
+read-field-requires c κs =
+    let three = c .before .before .before in
+    let left = three .before .before .before .before .before .before .if1 .left in
+    let st = three .before .before .before .before .before .before .before .before .before .before .before in
+    let may = sym (three .before .allowed .ensures) ∙ not-false (three .before .allowed .result) (three .if3 .left) in
+    (left, st .pre .0, st .pre .1, may)
+
+same-length-4 : tie.Need-same-length-4
+same-length-4 c = search needs
+
+same-length-5 : tie.Need-same-length-5
+same-length-5 c = search needs
+
+same-length-6 : tie.Need-same-length-6
+same-length-6 c = search needs
+
 returns-4 : tie.Need-returns-4
 returns-4 c =
-    gives-as (tag-next (c .before .before .before .before .before .before .before .before .before .before .before .before .before .before .before .before .before .before .args .job .now) (c .before .before .before .before .before .before .before .before .before .before .before .before .before .before .before .before .before .before .args .s) (c .before .before .before .before .before .before .before .before .before .before .before .before .before .before .before .before .before .before .args .table .now) (c .before .before .before .before .before .before .before .before .before .before .before .before .before .before .before .before .before .before .args .parts .now) (c .before .before .before .before .before .before .before .before .before .before .before .before .before .before .before .before .before .before .pre .1) (length (c .before .before .before .before .before .before .before .before .before .before .before .before .before .before .before .before .before .before .args .out .now)) (c .before .before .before .before .before .before .before .before .before .before .before .before .before .if1 .left) (sym (c .before .before .before .before .before .before .before .before .before .before .before .allowed .ensures) ∙ not-false (c .before .before .before .before .before .before .before .before .before .before .before .allowed .result) (c .before .before .before .before .before .before .before .before .before .before .if3 .left))) (c .before .before .before .before .before .before .read-field .ensures)
+    let read = c .before .before .before .before .before .before in
+    let third = read .before .before .before .before in
+    let two = third .before .before in
+    let st = two .before .before .before .before .before .before .before .before .before in
+    let a = st .args in
+    let yes = sym (two .before .seen-before .ensures) ∙ not-false (two .before .seen-before .result) (two .if2 .left) in
+    let may = sym (third .before .allowed .ensures) ∙ not-false (third .before .allowed .result) (third .if3 .left) in
+    gives-as
+    (tag-next (a .job .now) (a .s) (a .table .now) (a .parts .now) (length (a .out .now)) (st .pre .1) (two .before .before .before .before .if1 .left) yes may)
+    (read .read-field .ensures)
 
 pub read-next-spec : {M : Type 1} → statement M
 read-next-spec =
     tie.close
     (tie.spec
+    read-end-requires
+    same-length
     returns
+    shared-slice-read-tag
+    seen-before-requires
+    same-length-2
     returns-2
-    shared-slice-read-allowed
     allowed-requires
+    same-length-3
     returns-3
     read-field-requires
-    same-length
-    same-length-2
-    same-length-3
+    same-length-4
+    same-length-5
+    same-length-6
     returns-4)

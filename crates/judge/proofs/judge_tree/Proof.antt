@@ -1,56 +1,49 @@
 -- `judge::judge_tree` meets its contract. Assumes nothing.
 use mathlib.Core.Path.{sym, ap, _∙_}
-use borrow.Author.Tests.{not-true, not-false}
-use Rattle.tree.proofs.RefusalLaws.{gives-pass}
-use Rattle.moves.specs.Moves.{moveChecks}
 use Rattle.fits.specs.Bytes.{moveOf, fittedSays}
-use Rattle.judge.proofs.SaidLaws.{judges-6, judges-unfit, right-of}
+use Rattle.judge.proofs.SaidLaws.{judges-unfit, call-passes}
 use borrow.Author.Needs.{needs}
 use Rattle.judge.proofs.judge_tree.Statement.{statement}
 use Rattle.judge.proofs.judge_tree.Tie as tie
 
-partitions-right-requires : tie.Need-partitions-right-requires
-partitions-right-requires c κs =
-    (c .before .before .before .before .before .pre .0 .valid .big, c .before .before .before .before .before .pre .0 .few)
+call-fits-requires : tie.Need-call-fits-requires
+call-fits-requires c κs =
+    (c .before .before .before .before .before .pre .0, c .before .before .before .before .before .pre .2)
 
-returns : tie.Need-returns
-returns c =
-    judges-6 (c .before .before .before .before .before .before .before .args .n) (c .before .before .before .before .before .before .before .args .t .now) (c .before .before .before .before .before .before .before .args .ys .now) (moveOf (c .before .before .before .before .before .before .before .args .m)) (c .before .before .before .before .before .before .before .args .out .now) (c .before .before .before .before .before .before .before .pre .0) (sym (c .before .partitions-right .ensures) ∙ not-true (c .before .partitions-right .result) (c .if1 .taken))
-
-fit-of-requires : tie.Need-fit-of-requires
-fit-of-requires c κs = search needs
-
-enum-known-fit : tie.Need-enum-known-fit
-enum-known-fit c = search needs
+enum-known-r : tie.Need-enum-known-r
+enum-known-r c = search needs
 
 enum-told : tie.Need-enum-told
 enum-told c = search needs
 
 judge-fit-requires : tie.Need-judge-fit-requires
 judge-fit-requires c κs =
-    (record { good = c .before .before .before .before .before .before .before .before .before .before .before .pre .0; rows = c .before .before .before .before .before .before .before .before .before .before .before .pre .1; sides = c .before .before .before .before .before .before .before .before .before .before .before .pre .2; fits = gives-pass (moveChecks (c .before .before .before .before .before .before .before .before .before .before .before .args .n) (c .before .before .before .before .before .before .before .before .before .before .before .args .t .now) (moveOf (c .before .before .before .before .before .before .before .before .before .before .before .args .m))) tt tt (sym (c .before .before .before .fit-of .ensures) ∙ ap fittedSays (c .before .enum-told .given .1)) }, right-of (c .before .before .before .before .before .before .before .before .before .before .before .args .n) (c .before .before .before .before .before .before .before .before .before .before .before .args .ys .now) (sym (c .before .before .before .before .before .partitions-right .ensures) ∙ not-false (c .before .before .before .before .before .partitions-right .result) (c .before .before .before .before .if1 .left)))
+    let st = c .before .before .before .before .before .before .before .before .before in
+    let a = st .args in
+    let p = call-passes (a .n) (a .t .now) (a .ys .now) (moveOf (a .m)) (sym (c .before .before .before .call-fits .ensures) ∙ ap fittedSays (c .before .enum-told .given .1)) in
+    (record { good = st .pre .0; rows = st .pre .1; sides = st .pre .2; fits = p .1 }, p .0)
 
-returns-2 : tie.Need-returns-2
-returns-2 c =
-    judges-unfit (c .before .before .before .before .before .before .before .before .before .before .before .args .n) (c .before .before .before .before .before .before .before .before .before .before .before .args .t .now) (c .before .before .before .before .before .before .before .before .before .before .before .args .ys .now) (moveOf (c .before .before .before .before .before .before .before .before .before .before .before .args .m)) (c .before .before .before .before .before .before .before .before .before .before .before .args .out .now) (c .before .before .before .before .before .before .before .before .before .before .before .pre .0) (right-of (c .before .before .before .before .before .before .before .before .before .before .before .args .n) (c .before .before .before .before .before .before .before .before .before .before .before .args .ys .now) (sym (c .before .before .before .before .before .partitions-right .ensures) ∙ not-false (c .before .before .before .before .before .partitions-right .result) (c .before .before .before .before .if1 .left))) _ (sym (c .before .before .before .fit-of .ensures) ∙ ap fittedSays (c .before .fit .given .1))
+returns : tie.Need-returns
+returns c =
+    let st = c .before .before .before .before .before .before .before .before .before in
+    let a = st .args in
+    judges-unfit (a .n) (a .t .now) (a .ys .now) (moveOf (a .m)) (a .out .now) (st .pre .0) _ (sym (c .before .before .before .call-fits .ensures) ∙ ap fittedSays (c .before .r .given .1))
 
 same-length : tie.Need-same-length
 same-length c = search needs
 
-returns-3 : tie.Need-returns-3
-returns-3 c =
+returns-2 : tie.Need-returns-2
+returns-2 c =
     c .before .before .judge-fit .ensures
 
 pub judge-tree-spec : {M : Type 1} → statement M
 judge-tree-spec =
     tie.close
     (tie.spec
-    partitions-right-requires
-    returns
-    fit-of-requires
-    enum-known-fit
+    call-fits-requires
+    enum-known-r
     enum-told
     judge-fit-requires
-    returns-2
+    returns
     same-length
-    returns-3)
+    returns-2)

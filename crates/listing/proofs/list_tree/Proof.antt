@@ -1,42 +1,37 @@
 -- `listing::list_tree` meets its contract. Assumes nothing.
 use mathlib.Core.Path.{sym, ap, _∙_}
-use borrow.Author.Tests.{not-true, not-false}
-use Rattle.tree.proofs.RefusalLaws.{gives-pass}
-use Rattle.moves.specs.Moves.{moveChecks}
 use Rattle.fits.specs.Bytes.{moveOf, fittedSays}
-use Rattle.judge.proofs.SaidLaws.{right-of}
-use Rattle.listing.proofs.ListsLaws.{lists-6, lists-unfit}
+use Rattle.judge.proofs.SaidLaws.{call-passes}
+use Rattle.listing.proofs.ListsLaws.{lists-unfit}
 use borrow.Author.Needs.{needs}
 use Rattle.listing.proofs.list_tree.Statement.{statement}
 use Rattle.listing.proofs.list_tree.Tie as tie
 
-partitions-right-requires : tie.Need-partitions-right-requires
-partitions-right-requires c κs =
-    (c .before .before .before .before .before .pre .0 .valid .big, c .before .before .before .before .before .pre .0 .few)
+call-fits-requires : tie.Need-call-fits-requires
+call-fits-requires c κs =
+    (c .before .before .before .before .before .before .pre .0, c .before .before .before .before .before .before .pre .2)
 
-returns : tie.Need-returns
-returns c =
-    lists-6 (c .before .before .before .before .before .before .before .args .n) (c .before .before .before .before .before .before .before .args .t .now) (c .before .before .before .before .before .before .before .args .ys .now) (moveOf (c .before .before .before .before .before .before .before .args .m)) (c .before .before .before .before .before .before .before .args .number) (c .before .before .before .before .before .before .before .args .out .now) (c .before .before .before .before .before .before .before .args .place) (c .before .before .before .before .before .before .before .pre .0) (sym (c .before .partitions-right .ensures) ∙ not-true (c .before .partitions-right .result) (c .if1 .taken))
-
-fit-of-requires : tie.Need-fit-of-requires
-fit-of-requires c κs = search needs
-
-enum-known-fit : tie.Need-enum-known-fit
-enum-known-fit c = search needs
+enum-known-r : tie.Need-enum-known-r
+enum-known-r c = search needs
 
 enum-told : tie.Need-enum-told
 enum-told c = search needs
 
 list-fit-requires : tie.Need-list-fit-requires
 list-fit-requires c κs =
-    (record { good = c .before .before .before .before .before .before .before .before .before .before .before .before .before .pre .0; rows = c .before .before .before .before .before .before .before .before .before .before .before .before .before .pre .1; sides = c .before .before .before .before .before .before .before .before .before .before .before .before .before .pre .2; fits = gives-pass (moveChecks (c .before .before .before .before .before .before .before .before .before .before .before .before .before .args .n) (c .before .before .before .before .before .before .before .before .before .before .before .before .before .args .t .now) (moveOf (c .before .before .before .before .before .before .before .before .before .before .before .before .before .args .m))) tt tt (sym (c .before .before .before .before .fit-of .ensures) ∙ ap fittedSays (c .before .before .enum-told .given .1)) }, right-of (c .before .before .before .before .before .before .before .before .before .before .before .before .before .args .n) (c .before .before .before .before .before .before .before .before .before .before .before .before .before .args .ys .now) (sym (c .before .before .before .before .before .before .before .partitions-right .ensures) ∙ not-false (c .before .before .before .before .before .before .before .partitions-right .result) (c .before .before .before .before .before .before .if1 .left)))
+    let st = c .before .before .before .before .before .before .before .before .before .before .before in
+    let a = st .args in
+    let p = call-passes (a .n) (a .t .now) (a .ys .now) (moveOf (a .m)) (sym (c .before .before .before .before .call-fits .ensures) ∙ ap fittedSays (c .before .before .enum-told .given .1)) in
+    (record { good = st .pre .0; rows = st .pre .1; sides = st .pre .2; fits = p .1 }, p .0)
 
 same-length : tie.Need-same-length
 same-length c = search needs
 
-returns-2 : tie.Need-returns-2
-returns-2 c =
-    lists-unfit (c .before .before .before .before .before .before .before .before .before .before .before .before .args .n) (c .before .before .before .before .before .before .before .before .before .before .before .before .args .t .now) (c .before .before .before .before .before .before .before .before .before .before .before .before .args .ys .now) (moveOf (c .before .before .before .before .before .before .before .before .before .before .before .before .args .m)) (c .before .before .before .before .before .before .before .before .before .before .before .before .args .number) (c .before .before .before .before .before .before .before .before .before .before .before .before .args .out .now) (c .before .before .before .before .before .before .before .before .before .before .before .before .args .place) (c .before .before .before .before .before .before .before .before .before .before .before .before .pre .0) (right-of (c .before .before .before .before .before .before .before .before .before .before .before .before .args .n) (c .before .before .before .before .before .before .before .before .before .before .before .before .args .ys .now) (sym (c .before .before .before .before .before .before .partitions-right .ensures) ∙ not-false (c .before .before .before .before .before .before .partitions-right .result) (c .before .before .before .before .before .if1 .left))) _ (sym (c .before .before .before .fit-of .ensures) ∙ ap fittedSays (c .before .fit .given .1))
+returns : tie.Need-returns
+returns c =
+    let st = c .before .before .before .before .before .before .before .before .before .before in
+    let a = st .args in
+    lists-unfit (a .n) (a .t .now) (a .ys .now) (moveOf (a .m)) (a .number) (a .out .now) (a .place) (st .pre .0) _ (sym (c .before .before .before .call-fits .ensures) ∙ ap fittedSays (c .before .r .given .1))
 
 same-length-2 : tie.Need-same-length-2
 same-length-2 c = search needs
@@ -44,22 +39,20 @@ same-length-2 c = search needs
 same-length-3 : tie.Need-same-length-3
 same-length-3 c = search needs
 
-returns-3 : tie.Need-returns-3
-returns-3 c =
+returns-2 : tie.Need-returns-2
+returns-2 c =
     c .before .before .before .before .list-fit .ensures
 
 pub list-tree-spec : {M : Type 1} → statement M
 list-tree-spec =
     tie.close
     (tie.spec
-    partitions-right-requires
-    returns
-    fit-of-requires
-    enum-known-fit
+    call-fits-requires
+    enum-known-r
     enum-told
     list-fit-requires
     same-length
-    returns-2
+    returns
     same-length-2
     same-length-3
-    returns-3)
+    returns-2)

@@ -1,24 +1,21 @@
--- `job_cases::wholes` meets its contract. Assumes nothing.
+-- `job_cases::times` meets its contract. Assumes nothing.
 use Prim.Native.Nat.{_≤_, _-_}
 use mathlib.Core.Path.{_≡_}
 use lib.ListN.{length}
 use borrow.Author.Needs.{needs}
-use Rattle.job_cases.proofs.wholes.Statement.{statement}
-use Rattle.job_cases.proofs.wholes.Tie as tie
+use Rattle.job_cases.proofs.times.Statement.{statement}
+use Rattle.job_cases.proofs.times.Tie as tie
 
 abbrev Inv-loop : tie.InvT-loop
-Inv-loop job₀ at k end₀ i₀ t6 job end i =
+Inv-loop job₀ at k y end₀ i₀ job end i =
     (i ≤ k) × (length job ≡ length job₀)
 
 abbrev μ-loop : tie.MeasureT-loop
-μ-loop job₀ at k end₀ i₀ t6 job end i =
+μ-loop job₀ at k y end₀ i₀ job end i =
     k - i
 
 loop-holds : tie.Need-loop-holds Inv-loop μ-loop
 loop-holds c = search needs
-
-slice-aggregate-field : tie.Need-slice-aggregate-field Inv-loop μ-loop
-slice-aggregate-field c = search needs
 
 field-requires : tie.Need-field-requires Inv-loop μ-loop
 field-requires c κs = search needs
@@ -38,14 +35,13 @@ same-length c = search needs
 returns : tie.Need-returns Inv-loop μ-loop
 returns c = search needs
 
-pub wholes-spec : {M : Type 1} → statement M
-wholes-spec =
+pub times-spec : {M : Type 1} → statement M
+times-spec =
     tie.close
     (tie.spec
     Inv-loop
     μ-loop
     loop-holds
-    slice-aggregate-field
     field-requires
     add-i
     loop-less

@@ -1,0 +1,31 @@
+-- `job::read_end` meets its contract. Assumes nothing.
+use mathlib.Core.Path.{sym, ap, _∙_}
+use borrow.Author.Tests.{not-true, not-false}
+use Rattle.job.specs.Steps.{toldOf}
+use Rattle.job.proofs.SeenLaws.{end-12, end-16, end-over}
+use Rattle.job.proofs.read_end.Statement.{statement}
+use Rattle.job.proofs.read_end.Tie as tie
+
+returns : tie.Need-returns
+returns c =
+    let st = c .before .before .before in
+    sym (ap toldOf (end-12 (st .args .s) (st .args .parts .now) (st .pre .2) (st .args .long) (c .if1 .taken)))
+
+seen-so-far-requires : tie.Need-seen-so-far-requires
+seen-so-far-requires c κs =
+    c .before .before .before .pre
+
+returns-2 : tie.Need-returns-2
+returns-2 c =
+    let st = c .before .before .before .before .before in
+    let no = sym (c .before .seen-so-far .ensures) ∙ not-true (c .before .seen-so-far .result) (c .if2 .taken) in
+    sym (ap toldOf (end-16 (st .args .s) (st .args .parts .now) (st .pre .2) (st .args .long) (c .before .before .if1 .left) no))
+
+returns-3 : tie.Need-returns-3
+returns-3 c =
+    let st = c .before .before .before .before .before in
+    let yes = sym (c .before .seen-so-far .ensures) ∙ not-false (c .before .seen-so-far .result) (c .if2 .left) in
+    sym (ap toldOf (end-over (st .args .s) (st .args .parts .now) (st .pre .2) (st .args .long) (c .before .before .if1 .left) yes))
+
+pub read-end-spec : {M : Type 1} → statement M
+read-end-spec = tie.close (tie.spec returns seen-so-far-requires returns-2 returns-3)

@@ -1,0 +1,60 @@
+-- `taxa::union` meets its contract. The loop's invariant: what is joined, with
+-- the rest of the list, is the union. Assumes nothing.
+use mathlib.Core.Path.{_≡_, refl, sym, _∙_}
+use Prim.Native.Nat.{_-_, _≤_}
+use native.Mathlib.Omega.{arith}
+use lib.ListN.{length, drop}
+use Rattle.taxa.specs.Sets.{joined, union}
+use Rattle.taxa.proofs.Unions.{joined-next, joined-end}
+use borrow.Author.Needs.{needs}
+use Rattle.taxa.proofs.union.Statement.{statement}
+use Rattle.taxa.proofs.union.Tie as tie
+
+abbrev Inv-loop : tie.InvT-loop
+Inv-loop ys all₀ i₀ all i =
+    (i ≤ length ys) × (union ys ≡ joined all (drop i ys))
+
+abbrev μ-loop : tie.MeasureT-loop
+μ-loop ys all₀ i₀ all i =
+    length ys - i
+
+loop-holds : tie.Need-loop-holds Inv-loop μ-loop
+loop-holds c = (omega arith, refl)
+
+mul-all : tie.Need-mul-all Inv-loop μ-loop
+mul-all c = search needs
+
+shared-slice-read-all : tie.Need-shared-slice-read-all Inv-loop μ-loop
+shared-slice-read-all c = search needs
+
+add-i : tie.Need-add-i Inv-loop μ-loop
+add-i c = search needs
+
+loop-less : tie.Need-loop-less Inv-loop μ-loop
+loop-less c = search needs
+
+loop-again : tie.Need-loop-again Inv-loop μ-loop
+loop-again c =
+    let at = c .before .before .loop in
+    let ys = c .before .before .before .args .ys .now in
+    (search needs, at .inv .1 ∙ joined-next ys (at .all) (at .i) (c .before .loop-test .taken))
+
+returns : tie.Need-returns Inv-loop μ-loop
+returns c =
+    let at = c .before .loop in
+    let ys = c .before .before .args .ys .now in
+    sym (at .inv .1 ∙ joined-end ys (at .all) (at .i) (omega (arith, at .inv .0, c .loop-test .left)))
+
+pub union-spec : {M : Type 1} → statement M
+union-spec =
+    tie.close
+    (tie.spec
+    Inv-loop
+    μ-loop
+    loop-holds
+    mul-all
+    shared-slice-read-all
+    add-i
+    loop-less
+    loop-again
+    returns)
