@@ -24,27 +24,22 @@ use Rattle.listing.specs.Listing.{linesOf, linesSaid, placeAfter, Lists}
 use Rattle.listing.specs.Listing as listing
 use Rattle.listing.specs.declared.Lines.{Lines}
 use Rattle.job.specs.Job.{Known, Outcome, next, over, stop, after, moveStep, withMove}
-use Rattle.job.specs.Steps.{knownOf, Held, fitting, told, toldOf, tableThen, partsThen, outThen, Gives}
+use Rattle.job.specs.Steps.{knownOf, Held, fitting, told, stopped, toldOf, steppedSays, tableThen, partsThen, outThen, Gives}
 use Rattle.job.specs.declared.State.{State}
 use Rattle.job.specs.declared.Stepped.{Stepped}
 
 -- ---- an outcome that leaves the memory
 module _ (table parts out : List ℕ) where
-  pub gives-stop : (o : Outcome) (r : Refusal) (p : ℕ) → o ≡ stop (numberOf r) p → Gives o (Stepped.Refused r p) table table parts parts out out
-  gives-stop o r p e = record {
-    says = sym (ap toldOf e);
+  pub gives-told : (o : Outcome) (a : Stepped) (k p : ℕ) → steppedSays a ≡ stopped k p → o ≡ stop k p → Gives o a table table parts parts out out
+  gives-told o a k p w e = record {
+    says = w ∙ sym (ap toldOf e);
     table-then = sym (ap (λ (x : Outcome). tableThen x table) e);
     parts-then = sym (ap (λ (x : Outcome). partsThen x parts) e);
     out-then = sym (ap (λ (x : Outcome). outThen x out) e);
   }
 
-  pub gives-over : (o : Outcome) → o ≡ over → Gives o Stepped.Ended table table parts parts out out
-  gives-over o e = record {
-    says = sym (ap toldOf e);
-    table-then = sym (ap (λ (x : Outcome). tableThen x table) e);
-    parts-then = sym (ap (λ (x : Outcome). partsThen x parts) e);
-    out-then = sym (ap (λ (x : Outcome). outThen x out) e);
-  }
+  pub gives-stop : (o : Outcome) (r : Refusal) (p : ℕ) → o ≡ stop (numberOf r) p → Gives o (Stepped.Refused r p) table table parts parts out out
+  gives-stop o r p e = gives-told o (Stepped.Refused r p) (numberOf r) p refl e
 
 -- the same of an equal outcome
 pub gives-as : {o q : Outcome} {r : Stepped} {table table′ parts parts′ out out′ : List ℕ} → q ≡ o → Gives q r table table′ parts parts′ out out′ → Gives o r table table′ parts parts′ out out′

@@ -11,7 +11,7 @@ ghost use Rattle.fits.specs.Bytes.{moveOf, fittedSays};
 ghost use Rattle.fields.specs.Fields as fields_spec;
 ghost use Rattle.fields.specs.Fields.{tagAt, moveIn};
 ghost use Rattle.job.specs.Job.{taxaStep, tableStep, keptStep, partitionStep, moveStep, fieldOf, seenSoFar, endStep, field, longest};
-ghost use Rattle.job.specs.Steps.{knownOf, fitting, stepped, steppedSays, toldOf, tableThen, partsThen, stateSaid, Gives, Held};
+ghost use Rattle.job.specs.Steps.{knownOf, fitting, stepped, steppedSays, stopped, toldOf, tableThen, partsThen, stateSaid, Gives, Held};
 use fits::Fitted;
 use fits::Move;
 use listing::Lines;
@@ -262,6 +262,16 @@ fn seen_so_far(s: State, parts: &[u64]) -> bool
     judge::all_seen(s.taxa, &parts[..s.parts])
 }
 
+// Refusal 16 at a place.
+fn unseen(place: usize) -> Stepped
+    ensures { λ r. ⌜ steppedSays r ≡ stopped 16 place ⌝ }
+{
+    Stepped::Refused {
+        why: Refusal::Unseen,
+        place,
+    }
+}
+
 // The end of a job of so many bytes.
 fn read_end(long: usize, s: State, parts: &[u64]) -> Stepped
     requires { ⌜ (4 < s .at → 4 ≤ s .taxa) × (s .taxa ≤ most) × (s .parts ≤ length (now parts)) ⌝ }
@@ -274,10 +284,7 @@ fn read_end(long: usize, s: State, parts: &[u64]) -> Stepped
         };
     }
     if !seen_so_far(s, parts) {
-        return Stepped::Refused {
-            why: Refusal::Unseen,
-            place: long,
-        };
+        return unseen(long);
     }
     Stepped::Ended
 }
@@ -305,10 +312,7 @@ fn read_next(job: &[u8], s: State, table: &mut [u8], parts: &mut [u64], out: &mu
     }
     let tag = job[at];
     if !seen_before(tag, s, parts) {
-        return Stepped::Refused {
-            why: Refusal::Unseen,
-            place: at,
-        };
+        return unseen(at);
     }
     if !fields::allowed(at, s.parts, s.moves, tag) {
         return Stepped::Refused {

@@ -12,7 +12,7 @@ use Rattle.taxa.specs.Sets.{has, union}
 use Rattle.taxa.proofs.Bools.{and-left, and-right}
 use Rattle.tree.specs.Splits.{dist, distances}
 use Rattle.tree.specs.Tree.{every}
-use Rattle.tree.specs.Refusals.{_else_, Said, gives, refuses, judged, treeChecks, partitionChecks, allSeen, partitionsChecks, roomChecks, each, treeSaid, written, Accepted}
+use Rattle.tree.specs.Refusals.{Check, _else_, Said, gives, refuses, judged, treeChecks, partitionChecks, allSeen, partitionsChecks, roomChecks, each, treeSaid, written, Accepted}
 use Rattle.tree.proofs.RefusalLaws.{Pass, judged-pass, judged-all, judged-next, judged-fail, refuses-more, refuses-any, accepted-pass, gives-pass}
 use Rattle.table.specs.Says.{numberOf}
 use Rattle.table.proofs.Numbers.{number-one}
@@ -23,7 +23,7 @@ use Rattle.fits.specs.Bytes.{fitSaid}
 use Rattle.judge.specs.declared.Moved.{Moved}
 use Rattle.judge.specs.declared.Judged.{Judged}
 use Rattle.judge.specs.declared.Verdict.{Verdict}
-use Rattle.judge.specs.Promises.{moveSays, done, tableAfter, Applies, judgeSays, howManySame, JudgesAll, verdictSays, JudgesOne, unionSaid, callSaid, Told}
+use Rattle.judge.specs.Promises.{moveSays, done, tableAfter, Applies, judgeSays, howManySame, JudgesAll, verdictSays, JudgesOne, unionSaid, firstOf, callSaid, Told}
 use Rattle.judge.proofs.PartitionLaws.{within-union, seen-union}
 
 -- ---- a move alone
@@ -59,6 +59,13 @@ module _ (n : ℕ) (ys : List ℕ) where
   pub each-of : Pass (partitionsChecks n ys) → each (λ y. ltb y (2 ^ n)) ys ≡ true
   each-of p = and-right (leb 1 (length ys) && leb (length ys) mostPartitions) (each (λ y. ltb y (2 ^ n)) ys) (p .0)
 
+-- Checks in two parts say the first refusal of the two.
+judged-two : (cs ds : List Check) → judged (cs ++ ds) (tt {0}) ≡ firstOf (judged cs tt) (judged ds tt)
+unfolding judged
+judged-two [] ds = refl
+judged-two ((true else k) ∷ cs) ds = judged-two cs ds
+judged-two ((false else k) ∷ cs) ds = refl
+
 -- What the checks of a list and a move say, all being the union of the list.
 module _ (n : ℕ) (t ys : List ℕ) (m : Move) (all : ℕ) (is : all ≡ union ys) where
   abbrev right : Bool
@@ -79,11 +86,8 @@ module _ (n : ℕ) (t ys : List ℕ) (m : Move) (all : ℕ) (is : all ≡ union 
         judged-next right 6 ((allSeen n ys else 16) ∷ moveChecks n t m) tt (sym by-union ∙ h)
         ∙ ap (λ (b : Bool). judged ((b else 16) ∷ moveChecks n t m) tt) (sym (ap (λ (z : ℕ). every (has z) n) is ∙ seen-union n ys))
 
-    pub call-16 : (r : ℕ) → unionSaid n all ≡ refuses r → refuses r ≡ callSaid n t ys m
-    call-16 r w = sym (past ∙ refuses-more ((every (has all) n else 16) ∷ []) (moveChecks n t m) (tt {0}) tt r w)
-
-    pub call-move : unionSaid n all ≡ gives tt → fitSaid n t m ≡ callSaid n t ys m
-    call-move w = sym (past ∙ judged-next (every (has all) n) 16 (moveChecks n t m) tt (gives-pass ((every (has all) n else 16) ∷ []) tt tt w .0))
+    pub call-rest : firstOf (unionSaid n all) (fitSaid n t m) ≡ callSaid n t ys m
+    call-rest = sym (past ∙ judged-two ((every (has all) n else 16) ∷ []) (moveChecks n t m))
 
 -- Where they refuse nothing, the list passes and the move passes.
 module _ (n : ℕ) (t ys : List ℕ) (m : Move) where

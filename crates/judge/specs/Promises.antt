@@ -76,6 +76,11 @@ pub record JudgesOne (n : ℕ) (t : List ℕ) (y : ℕ) (m : Move) (r : Verdict)
 abbrev pub unionSaid : ℕ → ℕ → Said (Unit {0})
 unionSaid n all = judged ((every (has all) n else 16) ∷ []) tt
 
+-- What two tests in order say: the first refusal.
+abbrev pub firstOf : Said (Unit {0}) → Said (Unit {0}) → Said (Unit {0})
+firstOf (gives u) s = s
+firstOf (refuses k) s = refuses k
+
 -- What the checks of a list of partitions and of a move say: 6, 16, and 7 to
 -- 10.
 abbrev pub callSaid : ℕ → List ℕ → List ℕ → Move → Said (Unit {0})

@@ -17,7 +17,7 @@ ghost use Rattle.sides.specs.Filled.{Sides};
 ghost use Rattle.moves.specs.Moves as moves_spec;
 ghost use Rattle.walks.specs.Way.{Listed, room};
 ghost use Rattle.fits.specs.Bytes.{moveOf, fittedSays};
-ghost use Rattle.judge.specs.Promises.{Applies, JudgesAll, JudgesOne, unionSaid, callSaid, Fit, Told, firstGroups, secondGroups};
+ghost use Rattle.judge.specs.Promises.{Applies, JudgesAll, JudgesOne, unionSaid, firstOf, callSaid, Fit, Told, firstGroups, secondGroups};
 use fits::Fitted;
 use fits::Move;
 use table::Checked;
@@ -189,7 +189,8 @@ fn covers(n: usize, y: u64) -> bool
     requires { ⌜ (4 ≤ n) × (n ≤ most) ⌝ }
     ensures { λ b. ⌜ b ≡ every (has y) n ⌝ }
 {
-    taxa::less(taxa::full(n), y) == 0
+    let all = taxa::full(n);
+    taxa::less(all, y) == 0
 }
 
 // Whether each of the n taxa is in some partition on a list.
@@ -211,6 +212,16 @@ fn union_fits(n: usize, all: u64) -> Fitted
     Fitted::Fits
 }
 
+// What two tests in order find: the first refusal.
+fn first_of(a: Fitted, b: Fitted) -> Fitted
+    ensures { λ r. ⌜ fittedSays r ≡ firstOf (fittedSays a) (fittedSays b) ⌝ }
+{
+    match a {
+        Fitted::Refused(r) => Fitted::Refused(r),
+        Fitted::Fits => b,
+    }
+}
+
 // Whether a list of partitions and a move fit a tree: refusal 6, 16, and 7 to
 // 10. The union of the partitions is found once.
 pub fn call_fits(n: usize, t: &[u8], s: &[u64], ys: &[u64], m: Move) -> Fitted
@@ -221,10 +232,9 @@ pub fn call_fits(n: usize, t: &[u8], s: &[u64], ys: &[u64], m: Move) -> Fitted
     if !partitions_right(n, ys.len(), all) {
         return Fitted::Refused(Refusal::Partition);
     }
-    match union_fits(n, all) {
-        Fitted::Refused(r) => Fitted::Refused(r),
-        Fitted::Fits => fits::fit_of(n, t, s, m),
-    }
+    let seen = union_fits(n, all);
+    let fit = fits::fit_of(n, t, s, m);
+    first_of(seen, fit)
 }
 
 // The judgement of a tree's move that fits, where the partitions are right:

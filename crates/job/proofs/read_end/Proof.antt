@@ -3,6 +3,7 @@ use mathlib.Core.Path.{sym, ap, _∙_}
 use borrow.Author.Tests.{not-true, not-false}
 use Rattle.job.specs.Steps.{toldOf}
 use Rattle.job.proofs.SeenLaws.{end-12, end-16, end-over}
+use borrow.Author.Needs.{needs}
 use Rattle.job.proofs.read_end.Statement.{statement}
 use Rattle.job.proofs.read_end.Tie as tie
 
@@ -15,11 +16,15 @@ seen-so-far-requires : tie.Need-seen-so-far-requires
 seen-so-far-requires c κs =
     c .before .before .before .pre
 
+unseen-requires : tie.Need-unseen-requires
+unseen-requires c κs = search needs
+
 returns-2 : tie.Need-returns-2
 returns-2 c =
-    let st = c .before .before .before .before .before in
-    let no = sym (c .before .seen-so-far .ensures) ∙ not-true (c .before .seen-so-far .result) (c .if2 .taken) in
-    sym (ap toldOf (end-16 (st .args .s) (st .args .parts .now) (st .pre .2) (st .args .long) (c .before .before .if1 .left) no))
+    let two = c .before in
+    let st = two .before .before .before .before .before in
+    let no = sym (two .before .seen-so-far .ensures) ∙ not-true (two .before .seen-so-far .result) (two .if2 .taken) in
+    c .unseen .ensures ∙ sym (ap toldOf (end-16 (st .args .s) (st .args .parts .now) (st .pre .2) (st .args .long) (two .before .before .if1 .left) no))
 
 returns-3 : tie.Need-returns-3
 returns-3 c =
@@ -28,4 +33,4 @@ returns-3 c =
     sym (ap toldOf (end-over (st .args .s) (st .args .parts .now) (st .pre .2) (st .args .long) (c .before .before .if1 .left) yes))
 
 pub read-end-spec : {M : Type 1} → statement M
-read-end-spec = tie.close (tie.spec returns seen-so-far-requires returns-2 returns-3)
+read-end-spec = tie.close (tie.spec returns seen-so-far-requires unseen-requires returns-2 returns-3)

@@ -4,7 +4,7 @@ use native.Mathlib.Omega.{arith}
 use lib.ListN.{length}
 use borrow.Author.Tests.{not-true, not-false}
 use Rattle.table.specs.declared.Refusal.{Refusal}
-use Rattle.job.proofs.StepLaws.{gives-as, gives-stop}
+use Rattle.job.proofs.StepLaws.{gives-as, gives-told, gives-stop}
 use Rattle.job.proofs.FieldSteps.{end-gives, tag-16, tag-12, tag-next}
 use borrow.Author.Needs.{needs}
 use Rattle.job.proofs.read_next.Statement.{statement}
@@ -31,16 +31,20 @@ seen-before-requires c κs =
     let h = c .before .before .before .before .before .before .before .pre .1 in
     (λ l. h .taxa-big (λ e. omega (arith, l, e)), h .taxa-few, h .for-parts)
 
+unseen-requires : tie.Need-unseen-requires
+unseen-requires c κs = search needs
+
 same-length-2 : tie.Need-same-length-2
 same-length-2 c = search needs
 
 returns-2 : tie.Need-returns-2
 returns-2 c =
-    let st = c .before .before .before .before .before .before .before .before .before in
+    let two = c .before in
+    let st = two .before .before .before .before .before .before .before .before .before in
     let a = st .args in
-    let no = sym (c .before .seen-before .ensures) ∙ not-true (c .before .seen-before .result) (c .if2 .taken) in
-    gives-stop (a .table .now) (a .parts .now) (a .out .now) _ Refusal.Unseen (a .s .at)
-    (tag-16 (a .job .now) (a .s) (a .table .now) (a .parts .now) (length (a .out .now)) (st .pre .1) (c .before .before .before .before .if1 .left) no)
+    let no = sym (two .before .seen-before .ensures) ∙ not-true (two .before .seen-before .result) (two .if2 .taken) in
+    gives-told (a .table .now) (a .parts .now) (a .out .now) _ _ 16 (a .s .at) (c .unseen .ensures)
+    (tag-16 (a .job .now) (a .s) (a .table .now) (a .parts .now) (length (a .out .now)) (st .pre .1) (two .before .before .before .before .if1 .left) no)
 
 allowed-requires : tie.Need-allowed-requires
 allowed-requires c κs = search needs
@@ -97,6 +101,7 @@ read-next-spec =
     returns
     shared-slice-read-tag
     seen-before-requires
+    unseen-requires
     same-length-2
     returns-2
     allowed-requires

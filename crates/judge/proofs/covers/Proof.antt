@@ -11,7 +11,7 @@ use Rattle.judge.proofs.covers.Tie as tie
 
 full-requires : tie.Need-full-requires
 full-requires c κs =
-    (omega (arith, c .pre .0), c .pre .1)
+    (omega (arith, c .pre .0), omega (arith, c .pre .1))
 
 less-requires : tie.Need-less-requires
 less-requires c κs = search needs
