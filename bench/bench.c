@@ -96,13 +96,20 @@ static void make_tree(uint8_t *table)
     shuffle(table);
 }
 
-/* Makes partitions in which 70 of 100 cells are empty. */
+/* Makes partitions in which 70 of 100 cells are empty. A taxon that is then in
+ * none is put into one of them, so that no list is refused with 16. */
 static void make_partitions(void)
 {
-    for (size_t i = 0; i < all.partition_count; i++)
-        for (size_t taxon = 0; taxon < all.taxa; taxon++)
-            if (below(100) >= 70)
+    for (size_t taxon = 0; taxon < all.taxa; taxon++) {
+        size_t seen = 0;
+        for (size_t i = 0; i < all.partition_count; i++)
+            if (below(100) >= 70) {
                 all.partitions[i] |= (uint64_t)1 << taxon;
+                seen++;
+            }
+        if (seen == 0)
+            all.partitions[below(all.partition_count)] |= (uint64_t)1 << taxon;
+    }
 }
 
 /* A random row at a node, other than one of them. */

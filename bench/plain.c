@@ -140,7 +140,7 @@ static unsigned read_tree(tree *t, size_t n, const uint8_t *table,
     return refusal ? refusal : find_sides(t);
 }
 
-/* Checks a list of partitions: refusal 6. */
+/* Checks a list of partitions: refusals 6 and 16. */
 static unsigned check_partitions(const tree *t, const uint64_t *partitions,
                                  size_t count)
 {
@@ -149,7 +149,9 @@ static unsigned check_partitions(const tree *t, const uint64_t *partitions,
         return TUSVLANE_PARTITION;
     for (size_t i = 0; i < count; i++)
         named |= partitions[i];
-    return named & ~t->all ? TUSVLANE_PARTITION : 0;
+    if (named & ~t->all)
+        return TUSVLANE_PARTITION;
+    return named == t->all ? 0 : TUSVLANE_UNSEEN;
 }
 
 /* Whether a move's second row is at node u, and its third at node v. */
@@ -330,7 +332,7 @@ static size_t judge(const tree *t, const uint64_t *partitions, size_t count,
     return same;
 }
 
-/* Reads what a call about a move is lent: refusals 1 to 10. */
+/* Reads what a call about a move is lent: refusals 1 to 6, 16, and 7 to 10. */
 static unsigned read_all(tree *t, size_t n, const uint8_t *table,
                          size_t table_bytes, const uint64_t *partitions,
                          size_t count, tusvlane_move m)

@@ -55,6 +55,25 @@ static int allowed(const job *j)
     return tag == 3 && j->moves == 0 && j->partition_count < PARTITIONS;
 }
 
+/* All taxa of the job. */
+static uint64_t all_taxa(const job *j)
+{
+    return ~(uint64_t)0 >> (64 - j->taxa);
+}
+
+/* Whether the partitions are over at hand, and a taxon is in none of them. */
+static int unseen(const job *j)
+{
+    uint64_t seen = 0;
+    if (j->partition_count == 0 || j->moves > 0)
+        return 0;
+    if (rest(j) > 0 && field(j)[0] == 3)
+        return 0;
+    for (size_t i = 0; i < j->partition_count; i++)
+        seen |= j->partitions[i];
+    return seen != all_taxa(j);
+}
+
 static unsigned read_taxa(job *j)
 {
     if (!has(j, 1))
@@ -87,7 +106,7 @@ static unsigned read_partition(job *j)
         return TUSVLANE_FIELD;
     for (size_t i = 0; i < 8; i++)
         partition = partition << 8 | field(j)[3 + i];
-    if (partition & ~(~(uint64_t)0 >> (64 - j->taxa)))
+    if (partition & ~all_taxa(j))
         return TUSVLANE_PARTITION;
     j->partitions[j->partition_count++] = partition;
     j->at += 11;
@@ -116,6 +135,8 @@ static unsigned read_move(job *j)
 /* Reads the field at hand: 0 or a refusal. */
 static unsigned read_field(job *j)
 {
+    if (unseen(j))
+        return TUSVLANE_UNSEEN;
     if (!allowed(j))
         return TUSVLANE_FIELD;
     switch (field(j)[0]) {
@@ -153,6 +174,8 @@ int main(void)
     }
     if (j.partition_count == 0)
         refuse(TUSVLANE_FIELD, j.length);
+    else if (unseen(&j))
+        refuse(TUSVLANE_UNSEEN, j.length);
     else
         printf("end %llu\n", (unsigned long long)j.moves);
     return 0;

@@ -14,9 +14,9 @@
  *   tusvlane_read_newick with 14.
  * - A refused call leaves every lent byte as it was. An accepted one writes
  *   what its description says and nothing else.
- * - Checks run in the order of the refusal numbers 1 to 11. Of two trees the
- *   first is checked wholly, then the second. tusvlane_read_newick and
- *   tusvlane_step tell their own order.
+ * - Checks run in the order of the refusal numbers 1 to 11, with 16 after 6
+ *   and before 7. Of two trees the first is checked wholly, then the second.
+ *   tusvlane_read_newick and tusvlane_step tell their own order.
  * - No function keeps memory, calls for any, or has a state of its own, so
  *   that any number of threads may call.
  */
@@ -65,7 +65,11 @@ enum {
     /* A job is longer than 65,535 bytes. */
     TUSVLANE_LONG = 13,
     /* A text is no tree of n taxa. */
-    TUSVLANE_TEXT = 14
+    TUSVLANE_TEXT = 14,
+    /* A taxon is in no partition of the list or of the job. Which one is for
+     * the caller to find: take the bitwise or of all partitions; each bit from
+     * 0 to n-1 that is 0 in it is a taxon with no data. */
+    TUSVLANE_UNSEEN = 16
 };
 
 /* A tree of n taxa is a table of 2n-3 rows, two bytes a row: the two end nodes
@@ -162,7 +166,7 @@ uint32_t tusvlane_apply_move(size_t n, uint8_t *TUSVLANE_LENT table,
  * many of the distances are 0: these partitions are the same after the move.
  * A partition of fewer than four taxa always is. Nobody scores it, so
  * tusvlane_list_move does not count it as saved.
- * Refusals 1 to 11. */
+ * Refusals 1 to 11 and 16. */
 tusvlane_answer tusvlane_judge_move(size_t n, const uint8_t *table,
                                     size_t table_bytes,
                                     const uint64_t *partitions,
@@ -172,7 +176,7 @@ tusvlane_answer tusvlane_judge_move(size_t n, const uint8_t *table,
                                     size_t out_numbers);
 
 /* `value` is the distance that the move makes over one partition. The tree is
- * not moved. Refusals 1 to 10. */
+ * not moved. Refusals 1 to 10: the partition may lack any taxon. */
 tusvlane_answer tusvlane_judge_one(size_t n, const uint8_t *table,
                                    size_t table_bytes, uint64_t partition,
                                    tusvlane_move move);
@@ -182,8 +186,8 @@ tusvlane_answer tusvlane_judge_one(size_t n, const uint8_t *table,
  * line says how many partitions are saved: those that are the same and have
  * four or more taxa. The terrace class after it says which share of all
  * partitions is the same.
- * Refusals 1 to 11; 11 when the lines do not all fit or the place is past the
- * end, and then the tree has not moved either. */
+ * Refusals 1 to 11 and 16; 11 when the lines do not all fit or the place is
+ * past the end, and then the tree has not moved either. */
 tusvlane_answer tusvlane_list_move(size_t n, uint8_t *TUSVLANE_LENT table,
                                    size_t table_bytes,
                                    const uint64_t *partitions,
@@ -230,14 +234,20 @@ tusvlane_state tusvlane_start(void);
  * The closing line of a listing, `end M` or `refused N at P`, is the caller's
  * to write. M is the number of moves of the state that the last step took.
  *
- * Refusals 1 to 13. Any state is taken, also one that no job has. In order:
+ * Refusals 1 to 13 and 16. Any state is taken, also one that no job has. In
+ * order:
  * - 13 at 0 when the job is longer than 65,535 bytes;
  * - with the state's offset as the place: 1 when its number of taxa is above
  *   64, or below 4 and its offset not 0; 11 when the table or the list is too
  *   short for its taxa or its partitions; 12 when its offset is from 1 to 3,
  *   or its number of moves above 65,535;
- * - when the offset is the job's length or more: the end of the job, or 12 at
- *   the job's length where the state has no partition;
+ * - when the offset is the job's length or more: 12 at the job's length where
+ *   the state has no partition;
+ * - 16 when a taxon is in none of the partitions that are held. It is looked
+ *   for where the partitions are over: the offset is above 4, the state has
+ *   partitions and no moves, and the job ends there or the tag at the offset
+ *   is not 3. The place is the job's length, or the offset;
+ * - when the offset is the job's length or more: the end of the job;
  * - the field at the offset. At 0 it is n, at 4 the table. Elsewhere it is a
  *   partition where the state has none; otherwise a move, or a partition where
  *   the state has no moves and fewer than 64 partitions. Any other tag is 12.

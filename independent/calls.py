@@ -227,12 +227,14 @@ def any_partition(pick, n):
 
 def any_partitions(pick, n):
     """A list of partitions, now and then too short, too long or with a foreign taxon."""
-    count = jobs.draw_partition_count(pick)
+    count = None
     if chance(pick, 10):
         count = pick.choice([0, 0, 63, 64, 65, 65, 66, 80])
+    if count == 0:
+        return []
     partitions = making.make_partitions(pick, n, count)
-    if count and chance(pick, 8):
-        partitions[pick.randrange(count)] = making.foreign_partition(pick, n)
+    if chance(pick, 8):
+        partitions[pick.randrange(len(partitions))] = making.foreign_partition(pick, n)
     return partitions
 
 
@@ -417,13 +419,47 @@ def any_step(pick):
 
 def move_step(pick):
     """A step over a move, with none or some moves before it."""
-    parts = jobs.Parts(pick, making.make_count(pick), jobs.draw_partition_count(pick),
-                       pick.randint(0, 5))
+    n = making.make_count(pick)
+    parts = jobs.Parts(pick, n, making.make_partitions(pick, n), pick.randint(0, 5))
     before = b"".join(parts.fields())
     move = any_move(pick, parts.n, parts.last)
     after = pick.choice([b"", b"", jobs.move_field(making.wild_move(pick, parts.n))])
     known = walked(before, len(before))
     return step_from(pick, before + jobs.move_field(move) + after, known)
+
+
+def any_offset(pick, fields):
+    """An offset in a job of these fields: the start of one, near it, or the end and beyond."""
+    starts = [0]
+    for each in fields:
+        starts.append(starts[-1] + len(each))
+    length = starts.pop()
+    tags = [each[0] for each in fields]
+    over = next((start for start, tag in zip(starts, tags) if start > 4 and tag != 3), length)
+    return pick.choice([over] * 6 + [0, 4, 4, 4, 5, 5, 6, pick.choice(starts),
+                                     pick.choice(starts), starts[-1], length, length, length + 1,
+                                     length + pick.randrange(1000), pick.randint(4, length)])
+
+
+def unseen_step(pick):
+    """A step from any offset, after any number of moves, on a list that has all taxa or not."""
+    n = making.make_count(pick)
+    held = jobs.covering_or_lacking(pick, n)
+    parts = jobs.Parts(pick, n, pick.choice([held, held[:1], held[:3]]), pick.randrange(3))
+    fields = parts.fields() + [pick.choice(jobs.FOLLOWERS)(pick, parts)]
+    at = any_offset(pick, [each for each in fields if each])
+    job = b"".join(fields)
+    if chance(pick, 20):
+        job = job[:at + pick.choice([0, 0, 1, 2])]
+    taken = pick.choice([len(held)] * 4 + [len(held) - 1, pick.randint(0, len(held))])
+    if n < 64 and chance(pick, 15):
+        held[pick.randrange(len(held))] |= 1 << pick.randint(n, 63)
+    table = parts.table
+    if chance(pick, 20):
+        table = making.wrong_table(pick, n, table)
+    more = [pick.getrandbits(64) for _ in range(pick.choice([0, 0, 1, 10]))]
+    return Call("step", first=job, state=(at, n, taken, pick.choice([0, 0, 0, 1, 1, 2, 65535])),
+                table=table, partitions=held + more)
 
 
 def lend_step_output(pick, call):
@@ -459,7 +495,7 @@ def other_state(pick, call):
 
 def other_memory(pick, call):
     """Lends other memory than the steps before left."""
-    way = pick.randrange(5)
+    way = pick.randrange(6)
     if way == 0:
         call.table = call.table[:pick.randrange(len(call.table) + 1)]
     elif way == 1 and 4 <= call.state[1] <= 64 and len(call.table) >= 10:
@@ -474,26 +510,33 @@ def other_memory(pick, call):
     elif way == 4:
         count = pick.choice([64, 65, 66, 70])
         more = count - len(call.partitions)
-        call.partitions += making.make_partitions(pick, min(max(call.state[1], 4), 64), more)
+        if more > 0:
+            n = min(max(call.state[1], 4), 64)
+            call.partitions += making.make_partitions(pick, n, more)
+    elif way == 5:
+        taxon = pick.choice([0, 1, max(call.state[1] - 1, 0) % 64, pick.randrange(64)])
+        call.partitions = [partition & ~(1 << taxon) for partition in call.partitions]
 
 
 def many_held(pick):
     """A move or partition field with 63 to 70 partitions held, as many as lent or fewer."""
-    parts = jobs.Parts(pick, making.make_count(pick), 1, 1)
+    n = making.make_count(pick)
+    parts = jobs.Parts(pick, n, making.make_partitions(pick, n, 1), 1)
     fields = parts.fields()
     held = pick.randint(63, 70)
     at = len(fields[0]) + len(fields[1]) + pick.choice([0, len(fields[2])])
-    state = (at, parts.n, held, pick.choice([0, 0, 1]))
+    state = (at, n, held, pick.choice([0, 0, 1]))
     return Call("step", first=b"".join(fields), state=state, table=parts.table,
-                partitions=making.make_partitions(pick, parts.n, held + pick.choice([0, 0, 1])))
+                partitions=making.make_partitions(pick, n, held + pick.choice([0, 0, 1])))
 
 
 def long_step(pick):
     """A step over a job that is too long or as long as it can be, from any state."""
     job = pick.choice([jobs.too_long, jobs.too_long, jobs.as_long_as_allowed])(pick)
-    state = (pick.choice([0, 4, 65534, 65535, 65536]), pick.choice([0, 6, 70]), 0, 0)
+    at = pick.choice([0, 4, 65534, 65535, 65536])
+    state = (at, pick.choice([0, 6, 6, 6, 70]), pick.choice([0, 0, 1, 64]), 0)
     return Call("step", first=job, state=state, table=some_bytes(pick, 250),
-                partitions=[0] * 64)
+                partitions=[pick.choice([0, 31, 62, 63])] * 64)
 
 
 def make_step(pick):
@@ -503,7 +546,7 @@ def make_step(pick):
     elif chance(pick, 5):
         call = many_held(pick)
     else:
-        call = pick.choice([any_step, any_step, move_step])(pick)
+        call = pick.choice([any_step, any_step, move_step, move_step, unseen_step])(pick)
         for _ in range(pick.choice([0, 0, 0, 1, 1, 2])):
             pick.choice([other_state, other_memory])(pick, call)
     lend_step_output(pick, call)
@@ -511,8 +554,8 @@ def make_step(pick):
 
 
 MAKERS = ([make_check_tree] * 10 + [make_induced_splits] * 12 + [make_compare] * 12
-          + [make_apply_move] * 14 + [make_judge_move] * 12 + [make_judge_one] * 10
-          + [make_list_move] * 15 + [make_start] + [make_step] * 20
+          + [make_apply_move] * 14 + [make_judge_move] * 15 + [make_judge_one] * 10
+          + [make_list_move] * 20 + [make_start] + [make_step] * 20
           + [make_divided_list] * 8 + [make_divided_comparison] * 8)
 
 

@@ -61,14 +61,14 @@ SAVED = [
     ("00 04 0C 0D 33", ["01040305"],
      b"1 1 same 0\n1 2 same 0\n1 3 same 0\n1 4 same 0\n1 5 same 0\n"
      b"1 saved 1 full\nend 1\n"),
-    # 5, 0 3, 2 3 4: fewer than four taxa each, whatever the moves.
-    ("20 09 1C", ["01040305", "02000700"],
+    # 1 5, 0 3, 2 3 4: fewer than four taxa each, whatever the moves.
+    ("22 09 1C", ["01040305", "02000700"],
      b"1 1 same 0\n1 2 same 0\n1 3 same 0\n1 saved 0 full\n"
      b"2 1 same 0\n2 2 same 0\n2 3 same 0\n2 saved 0 full\nend 2\n"),
-    # No taxon at all, and no other partition.
-    ("00", ["03040007"], b"1 1 same 0\n1 saved 0 full\nend 1\n"),
-    # Four taxa, and no other partition.
-    ("33", ["01040305"], b"1 1 same 0\n1 saved 1 full\nend 1\n"),
+    # 0 1 2, 3 4 5: the fewest partitions in which nothing counts as saved.
+    ("07 38", ["03040007"], b"1 1 same 0\n1 2 same 0\n1 saved 0 full\nend 1\n"),
+    # Four taxa, and the other two.
+    ("33 0C", ["01040305"], b"1 1 same 0\n1 2 same 0\n1 saved 1 full\nend 1\n"),
     # None, 3, all, 0 1 4 5: three of four are the same.
     ("00 08 3F 33", ["01040305"],
      b"1 1 same 0\n1 2 same 0\n1 3 changed 2\n1 4 same 0\n1 saved 1 pt8\nend 1\n"),
@@ -90,9 +90,91 @@ SAVED = [
 ]
 # Partitions of 64 taxa along a line; by the NNI 94,31,32 the taxa 31 and 32 change places.
 SAVED_ON_LINE = [[0, 31, 32, 63], [0, 1, 62, 63], [31, 32, 63], [0, 30, 33, 63],
-                 [60, 61, 62, 63], [61, 62, 63]]
+                 [60, 61, 62, 63], [61, 62, 63], [*range(31), *range(33, 64)]]
 LINES_ON_LINE = (b"7 1 changed 2\n7 2 same 0\n7 3 same 0\n7 4 same 0\n7 5 same 0\n"
-                 b"7 6 same 0\n7 saved 3 pt9\n")
+                 b"7 6 same 0\n7 7 same 0\n7 saved 4 pt9\n")
+
+# For jobs on tree S, the last byte of each partition, what follows in hex, and the closing
+# line. The first partition is at 25, and each is 11 bytes long.
+RIGHT_MOVE = "04 0004 01040305"
+UNSEEN = [
+    # 4 and 5 are in no partition: what follows is not judged, nor that the job ends.
+    ("0F", "", "refused 16 at 36"),
+    ("0F", RIGHT_MOVE, "refused 16 at 36"),
+    ("0F", "04 0004 00040305", "refused 16 at 36"),
+    ("0F", "04 0004 01090305", "refused 16 at 36"),
+    ("0F", "04 0004 01040303", "refused 16 at 36"),
+    ("0F", "04 0004 02000100", "refused 16 at 36"),
+    ("0F", "04", "refused 16 at 36"),
+    ("0F", "04 00", "refused 16 at 36"),
+    ("0F", "04 0003 010403", "refused 16 at 36"),
+    ("0F", "04 0005 0104030500", "refused 16 at 36"),
+    ("0F", "05", "refused 16 at 36"),
+    ("0F", "00 0008 000000000000003F", "refused 16 at 36"),
+    ("0F", "01 0001 06", "refused 16 at 36"),
+    ("0F", "02 0012", "refused 16 at 36"),
+    ("0F", RIGHT_MOVE + "03 0008 000000000000003F", "refused 16 at 36"),
+    # The same after a list that has all taxa.
+    ("3F", "", "end 0"),
+    ("3F", "04 0004 00040305", "refused 7 at 36"),
+    ("3F", "04 0004 01090305", "refused 8 at 36"),
+    ("3F", "04 0004 01040303", "refused 9 at 36"),
+    ("3F", "04 0004 02000100", "refused 10 at 36"),
+    ("3F", "04", "refused 12 at 36"),
+    ("3F", "04 00", "refused 12 at 36"),
+    ("3F", "04 0003 010403", "refused 12 at 36"),
+    ("3F", "04 0005 0104030500", "refused 12 at 36"),
+    ("3F", "05", "refused 12 at 36"),
+    ("3F", "00 0008 000000000000003F", "refused 12 at 36"),
+    ("3F", "01 0001 06", "refused 12 at 36"),
+    ("3F", "02 0012", "refused 12 at 36"),
+    # The first taxon alone, the last alone, one between, all of them.
+    ("3E 3C", "", "refused 16 at 47"),
+    ("1F 10 00", "", "refused 16 at 58"),
+    ("37 20", "", "refused 16 at 47"),
+    ("00 00", "", "refused 16 at 47"),
+    # Each taxon in one partition only; the last partition brings the last taxa.
+    ("01 02 04 08 10 20", "", "end 0"),
+    ("0F 30", "", "end 0"),
+    ("0F" * 63 + "30", "", "end 0"),
+    # A further partition is judged first: a foreign taxon, cut short, the 65th.
+    ("0F 4F", "", "refused 6 at 36"),
+    ("0F", "03", "refused 12 at 36"),
+    ("0F", "03 0008 00000000000000", "refused 12 at 36"),
+    ("0F", "03 0007 00000000000000", "refused 12 at 36"),
+    ("0F" * 64, "03 0008 000000000000003F", "refused 12 at 729"),
+    ("0F" * 64, "", "refused 16 at 729"),
+    # No partition.
+    ("", "", "refused 12 at 25"),
+    ("", RIGHT_MOVE, "refused 12 at 25"),
+]
+# For move calls on tree S, the partitions, the move, and the refusal or 0.
+UNSEEN_CALLS = [
+    ([0x0F], (1, 4, 3, 5), 16), ([0x0F], (0, 0, 0, 0), 16), ([0x0F, 0x10], (1, 4, 3, 3), 16),
+    ([0x0F, 0x30], (1, 4, 3, 5), 0), ([0x0F, 0x30], (0, 0, 0, 0), 7),
+    ([0x0F, 0x4F], (1, 4, 3, 5), 6), ([], (1, 4, 3, 5), 6), ([0x0F] * 65, (1, 4, 3, 5), 6),
+]
+# For steps over the job of partition 0F and one right move, which is 43 bytes long: the state,
+# the partitions held, and the refusal and its place; 0 and 0 where there is none.
+UNSEEN_STEPS = [
+    # Where the partitions are over, at the field or at the job's end and beyond it.
+    ((36, 6, 1, 0), [0x0F], (16, 36)), ((43, 6, 1, 0), [0x0F], (16, 43)),
+    ((44, 6, 1, 0), [0x0F], (16, 43)), ((5, 6, 1, 0), [0x0F], (16, 5)),
+    # What is lent beyond the partitions held does not count.
+    ((36, 6, 2, 0), [0x0F, 0x30], (0, 0)), ((36, 6, 1, 0), [0x0F, 0x30], (16, 36)),
+    ((43, 6, 2, 0), [0x0F, 0x30], (0, 0)), ((43, 6, 1, 0), [0x0F, 0x30], (16, 43)),
+    # Not at the count, the table or a partition, nor where none is held.
+    ((0, 6, 1, 0), [0x0F], (0, 0)), ((4, 6, 1, 0), [0x0F], (0, 0)),
+    ((25, 6, 1, 0), [0x0F, 0], (0, 0)), ((36, 6, 0, 0), [0x0F], (12, 36)),
+    ((43, 6, 0, 0), [0x0F], (12, 43)),
+    # After a move the job may end; a further move is refused as list_move refuses it.
+    ((43, 6, 1, 1), [0x0F], (0, 0)), ((36, 6, 1, 1), [0x0F], (16, 36)),
+    # With a foreign taxon held, and with more partitions than a list has.
+    ((36, 6, 1, 0), [0x4F], (16, 36)), ((36, 6, 1, 1), [0x4F], (6, 36)),
+    ((36, 6, 1, 0), [0x7F], (6, 36)), ((43, 6, 1, 0), [0x7F], (0, 0)),
+    ((36, 6, 65, 0), [0x0F] * 65, (16, 36)), ((36, 6, 65, 1), [0x0F] * 65, (6, 36)),
+    ((43, 6, 65, 0), [0x0F] * 64 + [0x30], (0, 0)),
+]
 
 # For a number of taxa and a text that is no tree, the place.
 NEWICK_PLACES = [
@@ -189,6 +271,37 @@ def check_saved():
     assert lines == LINES_ON_LINE
 
 
+def step_refusal(job, state, table, partitions):
+    """The number and the place with which the step is refused, or 0 and 0."""
+    try:
+        tusvlane.step(job, state, table, partitions, 8192)
+    except tusvlane.Refused as refused:
+        return refused.number, refused.place
+    return 0, 0
+
+
+def check_unseen():
+    """A taxon that is in no partition: in jobs, in move calls and in steps."""
+    for last_bytes, after, closing in UNSEEN:
+        job = saved_job(last_bytes, []) + bytes.fromhex(after)
+        assert tusvlane.listing(job) == closing.encode("ascii") + b"\n"
+    for partitions, move, number in UNSEEN_CALLS:
+        judged = (6, TREE_S, partitions, move, 64 if number == 0 else 0)
+        listed = (6, TREE_S, partitions, move, 1, 100 if number == 0 else 0)
+        assert number_of(tusvlane.judge_move, *judged) == number
+        assert number_of(tusvlane.list_move, *listed) == number
+    assert number_of(tusvlane.judge_one, 6, TREE_S, 0x0F, (1, 4, 3, 5)) == 0
+    for partition, number in [(2 ** 64 - 1, 0), (2 ** 64 - 2, 16), (2 ** 63 - 1, 16)]:
+        on_line = (64, line_of(64), [partition], (1, 94, 31, 32), 1)
+        assert number_of(tusvlane.judge_move, *on_line) == number
+    job = saved_job("0F", ["01040305"])
+    for state, partitions, refusal in UNSEEN_STEPS:
+        assert step_refusal(job, state, TREE_S, partitions) == refusal
+    # No tree is held: before the first move that is not looked at, after one it is.
+    assert step_refusal(job, (36, 6, 1, 0), bytes(18), [0x0F]) == (16, 36)
+    assert step_refusal(job, (36, 6, 1, 1), bytes(18), [0x0F]) == (3, 36)
+
+
 def check_sides():
     """The kept sides are those found by removing each row."""
     pick = random.Random(0)
@@ -223,4 +336,5 @@ def check():
     check_numbers()
     check_line()
     check_saved()
+    check_unseen()
     check_sides()

@@ -32,12 +32,6 @@ def move_field(move):
     return field(tusvlane.TAG_MOVE, bytes(move))
 
 
-def draw_partition_count(pick):
-    """How many partitions: few often, up to 64 sometimes."""
-    return pick.choice([1, 2, pick.randint(1, 6), pick.randint(1, 6), pick.randint(1, 20),
-                        pick.randint(1, 64)])
-
-
 def draw_move_count(pick):
     """How many moves: few often, up to 60 sometimes."""
     return pick.choice([0, 1, 2, pick.randint(0, 6), pick.randint(0, 6), pick.randint(0, 12)]
@@ -45,13 +39,15 @@ def draw_move_count(pick):
 
 
 class Parts:
-    """The fields of a right job, each still apart, to be damaged one by one."""
+    """The fields of a job, each still apart, to be damaged one by one.
 
-    def __init__(self, pick, n, partition_count, move_count):
-        """Makes a tree, partitions, and moves that are each accepted on the last tree."""
+    The job is right when its partitions are, and have all taxa."""
+
+    def __init__(self, pick, n, partitions, move_count):
+        """Makes a tree, and moves that are each accepted on the last tree."""
         self.n = n
         self.table = making.make_tree(pick, n)
-        self.partitions = making.make_partitions(pick, n, partition_count)
+        self.partitions = list(partitions)
         self.moves = []
         self.last = self.table
         for _ in range(move_count):
@@ -66,20 +62,21 @@ class Parts:
 
 
 def make_parts(pick):
-    """The fields of a right job of any size."""
-    return Parts(pick, making.make_count(pick), draw_partition_count(pick),
-                 draw_move_count(pick))
+    """The fields of a job of any size, right but for an unseen taxon in one of five."""
+    n = making.make_count(pick)
+    return Parts(pick, n, making.make_partitions(pick, n), draw_move_count(pick))
 
 
 def right_job(pick):
-    """A job that is read to its end."""
+    """A job that is read to its end; one in five has an unseen taxon and is not."""
     return b"".join(make_parts(pick).fields())
 
 
 def many_moves(pick):
     """Many moves in a row on one tree."""
-    parts = Parts(pick, making.make_count(pick), pick.randint(1, 4), pick.randint(40, 120))
-    return b"".join(parts.fields())
+    n = making.make_count(pick)
+    partitions = making.covering_partitions(pick, n, pick.randint(1, 4))
+    return b"".join(Parts(pick, n, partitions, pick.randint(40, 120)).fields())
 
 
 def wrong_count(pick):
@@ -203,9 +200,103 @@ def no_partition(pick):
 
 def many_partitions(pick):
     """63 to 66 partitions, with moves or none, whole or cut in the last."""
-    parts = Parts(pick, making.make_count(pick), pick.randint(63, 66), pick.randint(0, 2))
-    job = b"".join(parts.fields())
+    n = making.make_count(pick)
+    partitions = making.make_partitions(pick, n, pick.randint(63, 66))
+    job = b"".join(Parts(pick, n, partitions, pick.randint(0, 2)).fields())
     return job[:len(job) - pick.choice([0, 0, 0, 1, 8, 9, 10, 11])]
+
+
+# What follows a list of partitions, right or wrong.
+
+def nothing(pick, parts):
+    """The job ends."""
+    return b""
+
+
+def right_moves(pick, parts):
+    """A right move, and perhaps two others that fit or not."""
+    move, after = making.accepted_move(pick, parts.n, parts.table)
+    more = [making.draw_move(pick, parts.n, after) for _ in range(pick.randrange(3))]
+    return b"".join(move_field(each) for each in [move] + more)
+
+
+def wrong_move(pick, parts):
+    """A move refused with 7 to 10."""
+    return move_field(making.refused_move(pick, parts.n, parts.table, pick.randint(7, 10)))
+
+
+def strange_tag(pick, parts):
+    """A field that has a tag of the count, of the table or of nothing, or that tag alone."""
+    tag = bytes([pick.choice([0, 1, 2, 5, 255])])
+    fields = Parts(pick, parts.n, [making.all_taxa(pick, parts.n)], 1).fields()
+    return tag + pick.choice([b"", b"\0"] + [each[1:] for each in fields])
+
+
+def cut_move(pick, parts):
+    """A move cut short: after its tag, in its length or in its content."""
+    whole = right_moves(pick, parts)[:7]
+    return whole[:pick.choice([1, 1, 2, 2, 3, 4, 5, 6])]
+
+
+def long_or_short_move(pick, parts):
+    """A move with a stated length of 3 or 5, its content that long or as it should be."""
+    move = right_moves(pick, parts)[3:7]
+    stated = pick.choice([3, 5])
+    content = pick.choice([move, (move + b"\0")[:stated]])
+    return field(tusvlane.TAG_MOVE, content, stated)
+
+
+def cut_partition(pick, parts):
+    """A partition cut short."""
+    whole = partition_field(making.make_partition(pick, parts.n))
+    return whole[:pick.choice([1, 2, 3, 4, 9, 10])]
+
+
+def foreign_last(pick, parts):
+    """A partition with a foreign taxon, and nothing or a move after it."""
+    partition = making.foreign_partition(pick, parts.n)
+    return partition_field(partition) + pick.choice([nothing, right_moves])(pick, parts)
+
+
+def rest_last(pick, parts):
+    """A partition of the taxa that lack, or of all but one of them, then something else."""
+    lacking = tusvlane.unseen_taxa(parts.n, parts.partitions)
+    if lacking and pick.random() < 0.2:
+        lacking.remove(pick.choice(sorted(lacking)))
+    after = pick.choice([nothing, right_moves, right_moves, wrong_move, strange_tag])
+    return partition_field(making.set_of(lacking)) + after(pick, parts)
+
+
+def move_then_partition(pick, parts):
+    """A right move, then a partition of all taxa or any."""
+    late = pick.choice([making.all_taxa, making.make_partition])(pick, parts.n)
+    return right_moves(pick, parts)[:7] + partition_field(late)
+
+
+FOLLOWERS = [nothing, right_moves, right_moves, wrong_move, wrong_move, strange_tag, strange_tag,
+             cut_move, long_or_short_move, cut_partition, foreign_last, rest_last, rest_last,
+             move_then_partition]
+
+
+def covering_or_lacking(pick, n, count=None):
+    """A list of partitions; every second has all taxa."""
+    make = pick.choice([making.covering_partitions, making.lacking_partitions])
+    return make(pick, n, count)
+
+
+def followed_list(pick):
+    """A list of partitions that has all taxa or not, and something after it."""
+    n = making.make_count(pick)
+    parts = Parts(pick, n, covering_or_lacking(pick, n), 0)
+    return b"".join(parts.fields()) + pick.choice(FOLLOWERS)(pick, parts)
+
+
+def full_list(pick):
+    """64 partitions that have all taxa or not, and a 65th or something else after them."""
+    n = making.make_count(pick)
+    parts = Parts(pick, n, covering_or_lacking(pick, n, tusvlane.MOST_PARTITIONS), 0)
+    after = pick.choice([cut_partition, foreign_last, rest_last] + FOLLOWERS)
+    return b"".join(parts.fields()) + after(pick, parts)
 
 
 def cut_job(pick):
@@ -263,9 +354,10 @@ def two_faults(pick):
     if pick.random() < 0.3:
         table = making.wrong_table(pick, n, table)
     said = pick.choice([n, n, n, n, 3, 65])
-    partitions = [pick.choice([making.make_partition, making.foreign_partition])(pick, n)]
+    partition = pick.choice([making.all_taxa, making.all_taxa, making.make_partition,
+                             making.foreign_partition])(pick, n)
     move = pick.choice([making.draw_move, making.faulty_move])(pick, n, tree)
-    fields = [count_field(said), table_field(table), partition_field(partitions[0]),
+    fields = [count_field(said), table_field(table), partition_field(partition),
               move_field(move)]
     if pick.random() < 0.3:
         fields[pick.randrange(4)] += b"\0"
@@ -303,15 +395,17 @@ def longest_job(pick):
         if (tusvlane.LARGEST_JOB - before) % 7 == 0:
             break
     move_count = (tusvlane.LARGEST_JOB - before) // 7
-    return b"".join(Parts(pick, n, partition_count, move_count).fields())
+    partitions = making.covering_partitions(pick, n, partition_count)
+    return b"".join(Parts(pick, n, partitions, move_count).fields())
 
 
 WAYS = (
-    [right_job] * 12 + [refused_move] * 14 + [unsure_moves] * 4 + [wrong_count] * 2
+    [right_job] * 16 + [refused_move] * 17 + [unsure_moves] * 4 + [wrong_count] * 2
     + [wrong_table_length] * 3 + [table_of_other_count] + [no_tree] * 6 + [foreign_taxon] * 3
     + [wrong_tag] * 3 + [wrong_field_length] * 3 + [wrong_order] * 3 + [late_partition]
     + [no_partition] * 2 + [cut_job] * 2 + [cut_field] * 4 + [cut_table] * 2 + [trailing] * 2
-    + [changed_bytes] * 6 + [two_faults] * 4 + [noise] * 2
+    + [changed_bytes] * 6 + [two_faults] * 4 + [noise] * 2 + [followed_list] * 12
+    + [full_list] * 2
 )
 RARE_WAYS = [many_moves, many_partitions, too_long, as_long_as_allowed]
 

@@ -134,13 +134,18 @@ def set_of(taxa):
     return sum(1 << taxon for taxon in taxa)
 
 
+def all_taxa(pick, n):
+    """The set of all taxa."""
+    return (1 << n) - 1
+
+
 def make_partition(pick, n):
     """A set of taxa: mostly 70 in 100 cells empty; also none, all, and 1 to 4 taxa."""
     way = pick.randrange(10)
     if way == 0:
         return 0
     if way == 1:
-        return (1 << n) - 1
+        return all_taxa(pick, n)
     if way <= 3:
         return set_of(pick.sample(range(n), pick.randint(1, 4)))
     return set_of(taxon for taxon in range(n) if pick.random() < 0.3)
@@ -209,11 +214,103 @@ def small_or_large(pick, n):
     return set_of(pick.sample(range(n), pick.randint(4, n)))
 
 
-def make_partitions(pick, n, count):
-    """A list of partitions: of any size; small ones alone; near four; small and large ones."""
-    make = pick.choice([make_partition] * 5 + [small_partition] + [partition_near_four] * 2
-                       + [small_or_large] * 2)
-    return [make(pick, n) for _ in range(count)]
+# Lists of partitions.
+
+# Of any size; small ones alone; near four; small and large ones.
+KINDS_OF_LIST = ([make_partition] * 5 + [small_partition] + [partition_near_four] * 2
+                 + [small_or_large] * 2)
+
+
+def draw_partition_count(pick):
+    """How many partitions: few often, one alone seldom, up to 64 sometimes."""
+    return pick.choice([pick.randint(1, 3), 2, pick.randint(1, 6), pick.randint(1, 6),
+                        pick.randint(1, 20), pick.randint(1, 64)])
+
+
+def most_taxa(kind, n, size):
+    """How many taxa a partition of this size may get, so that its list stays of its kind."""
+    if kind is small_partition or (kind is small_or_large and size <= 3):
+        return 3
+    return min(n, 5) if kind is partition_near_four else n
+
+
+def draw_sets(pick, n, count):
+    """Sets of taxa of one kind, and for each the most taxa; together they can hold all.
+
+    Where no count is given it is drawn until they can; otherwise the kind is."""
+    kind = pick.choice(KINDS_OF_LIST)
+    while True:
+        drawn = range(count or draw_partition_count(pick))
+        sets = [set(taxa_in(kind(pick, n))) for _ in drawn]
+        most = [most_taxa(kind, n, len(taxa)) for taxa in sets]
+        if sum(most) >= n:
+            return sets, most
+        if count:
+            kind = pick.choice(KINDS_OF_LIST)
+
+
+def put_in(pick, taxon, sets, most, favoured):
+    """Puts an unseen taxon into a set with room, or in the place of one that two sets have."""
+    roomy = [place for place, taxa in enumerate(sets) if len(taxa) < most[place]]
+    if not roomy:
+        doubled = [(place, other) for place, taxa in enumerate(sets) for other in sorted(taxa)
+                   if sum(1 for each in sets if other in each) > 1]
+        place, other = pick.choice(doubled)
+        sets[place].remove(other)
+        roomy = [place]
+    liked = [place for place in roomy if place in favoured]
+    sets[pick.choice(liked or roomy)].add(taxon)
+
+
+def leave_unseen(pick, n, sets, most, lacking):
+    """Changes the sets so that just the lacking taxa are in none of them."""
+    for taxa in sets:
+        taxa -= lacking
+    unseen = sorted(set(range(n)) - lacking - set().union(*sets))
+    pick.shuffle(unseen)
+    places = len(sets)
+    favoured = pick.sample(range(places), pick.choice([1, places, pick.randint(1, places)]))
+    for taxon in unseen:
+        put_in(pick, taxon, sets, most, favoured)
+
+
+def keep_for_one(pick, sets):
+    """Takes up to three taxa of one set, often the last, out of all the others."""
+    last = len(sets) - 1
+    only = pick.choice([0, last, last, pick.randint(0, last)])
+    kept = set(pick.sample(sorted(sets[only]), min(len(sets[only]), pick.randint(1, 3))))
+    for place, taxa in enumerate(sets):
+        if place != only:
+            taxa -= kept
+
+
+def lacking_taxa(pick, n):
+    """Taxa to be in no partition: the last alone, the first alone, one between, some, many."""
+    return set(pick.choice([[n - 1], [0], [pick.randint(1, n - 2)],
+                            pick.sample(range(n), pick.randint(2, 3)),
+                            pick.sample(range(n), pick.randint(2, n))]))
+
+
+def covering_partitions(pick, n, count=None):
+    """A list of partitions that has all taxa, now and then some of them but once."""
+    sets, most = draw_sets(pick, n, count)
+    leave_unseen(pick, n, sets, most, set())
+    if pick.random() < 0.3:
+        keep_for_one(pick, sets)
+    return [set_of(taxa) for taxa in sets]
+
+
+def lacking_partitions(pick, n, count=None):
+    """A list of partitions that lacks a taxon or several."""
+    sets, most = draw_sets(pick, n, count)
+    leave_unseen(pick, n, sets, most, lacking_taxa(pick, n))
+    return [set_of(taxa) for taxa in sets]
+
+
+def make_partitions(pick, n, count=None):
+    """A list of partitions; four in five have all taxa."""
+    make = pick.choice([covering_partitions] * 4 + [lacking_partitions])
+    return make(pick, n, count)
 
 
 # Moves.

@@ -172,6 +172,18 @@ def check_partitions(n, partitions):
         check_partition(n, partition)
 
 
+def unseen_taxa(n, partitions):
+    """The taxa of 0 to n-1 that are in none of the partitions."""
+    return {taxon for taxon in range(n)
+            if not any(partition >> taxon & 1 for partition in partitions)}
+
+
+def check_seen(n, partitions, place=0):
+    """Refusal 16 for a list: a taxon is in no partition."""
+    if unseen_taxa(n, partitions):
+        raise Refused(16, place)
+
+
 def induced_splits(n, table, partition, room):
     """The list of induced splits, ascending; 11 when the room is too small."""
     check_tree(n, table)
@@ -305,9 +317,10 @@ def distances(n, before, after, partitions):
 
 
 def judge_move(n, table, partitions, move, room):
-    """The distance for each partition; refusals 1 to 11."""
+    """The distance for each partition; refusals 1 to 11, with 16 between 6 and 7."""
     check_tree(n, table)
     check_partitions(n, partitions)
+    check_seen(n, partitions)
     answer = distances(n, table, moved(n, table, move), partitions)
     if len(answer) > room:
         raise Refused(11)
@@ -351,6 +364,7 @@ def list_move(n, table, partitions, move, number, room):
     """The table after the move, and its lines; 11 when the room is too small for them."""
     check_tree(n, table)
     check_partitions(n, partitions)
+    check_seen(n, partitions)
     after = moved(n, table, move)
     lines = move_lines(number, partitions, distances(n, table, after, partitions))
     if len(lines) > room:
@@ -425,13 +439,23 @@ def read_field(job, known, room):
     return after, lines
 
 
-def over(job, known):
-    """Whether the job ends at the offset; 12 at its length when it ends too early."""
-    if known.at < len(job):
+def partitions_end(job, known):
+    """Whether the partitions are over at the offset and no move was read yet.
+
+    A step's state can hold partitions at the count or the table; there they are not over."""
+    if known.at <= 4 or not known.partitions or known.moves > 0:
         return False
-    if not known.partitions:
+    return known.at >= len(job) or job[known.at] != TAG_PARTITION
+
+
+def over(job, known):
+    """Whether the job ends at the offset; 12 when it ends too early, 16 for an unseen taxon."""
+    ends = known.at >= len(job)
+    if ends and not known.partitions:
         raise Refused(12, len(job))
-    return True
+    if partitions_end(job, known):
+        check_seen(known.taxa, known.partitions, min(known.at, len(job)))
+    return ends
 
 
 def listing(job):

@@ -23,7 +23,7 @@ use Rattle.text.proofs.Placing.{placed-start}
 use Rattle.listing.specs.Listing.{linesOf, linesSaid, placeAfter, Lists}
 use Rattle.listing.specs.Listing as listing
 use Rattle.listing.specs.declared.Lines.{Lines}
-use Rattle.job.specs.Job.{Known, Outcome, next, over, stop, after, moveStep, withMove}
+use Rattle.job.specs.Job.{Known, Outcome, next, stop, after, moveStep, withMove}
 use Rattle.job.specs.Steps.{knownOf, Held, fitting, told, stopped, toldOf, steppedSays, tableThen, partsThen, outThen, Gives}
 use Rattle.job.specs.declared.State.{State}
 use Rattle.job.specs.declared.Stepped.{Stepped}

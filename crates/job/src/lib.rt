@@ -294,10 +294,10 @@ fn seen_before(tag: u8, s: State, parts: &[u64]) -> bool
     requires { ⌜ (4 < s .at → 4 ≤ s .taxa) × (s .taxa ≤ most) × (s .parts ≤ length (now parts)) ⌝ }
     ensures { λ r. ⌜ r ≡ (eqb tag 3 || seenSoFar (knownOf s [] (now (parts .entry)))) ⌝ }
 {
-    if tag == 3 {
-        return true;
+    if tag != 3 {
+        return seen_so_far(s, parts);
     }
-    seen_so_far(s, parts)
+    true
 }
 
 // The next field of a state that a job can have, or the job's end: whether 16

@@ -8,19 +8,19 @@ use Rattle.job.specs.Steps.{knownOf}
 use Rattle.job.proofs.seen_before.Statement.{statement}
 use Rattle.job.proofs.seen_before.Tie as tie
 
-returns : tie.Need-returns
-returns c =
-    let a = c .before .before .args in
-    sym (ap (λ (b : Bool). b || seenSoFar (knownOf (a .s) [] (a .parts .now))) (eq-eqb (a .tag) 3 (c .if1 .taken)))
-
 seen-so-far-requires : tie.Need-seen-so-far-requires
 seen-so-far-requires c κs =
     c .before .before .pre
 
+returns : tie.Need-returns
+returns c =
+    let a = c .before .before .before .args in
+    c .seen-so-far .ensures ∙ sym (ap (λ (b : Bool). b || seenSoFar (knownOf (a .s) [] (a .parts .now))) (ne-eqb (a .tag) 3 (c .before .if1 .taken)))
+
 returns-2 : tie.Need-returns-2
 returns-2 c =
-    let a = c .before .before .before .args in
-    c .seen-so-far .ensures ∙ sym (ap (λ (b : Bool). b || seenSoFar (knownOf (a .s) [] (a .parts .now))) (ne-eqb (a .tag) 3 (c .before .if1 .left)))
+    let a = c .before .before .args in
+    sym (ap (λ (b : Bool). b || seenSoFar (knownOf (a .s) [] (a .parts .now))) (eq-eqb (a .tag) 3 (c .if1 .left)))
 
 pub seen-before-spec : {M : Type 1} → statement M
-seen-before-spec = tie.close (tie.spec returns seen-so-far-requires returns-2)
+seen-before-spec = tie.close (tie.spec seen-so-far-requires returns returns-2)
