@@ -67,8 +67,9 @@ enum {
     /* A text is no tree of n taxa. */
     TUSVLANE_TEXT = 14,
     /* A taxon is in no partition of the list or of the job. Which one is for
-     * the caller to find: take the bitwise or of all partitions; each bit from
-     * 0 to n-1 that is 0 in it is a taxon with no data. */
+     * the caller to find: take the bitwise or of all partitions, of a step the
+     * first ones, as many as its state counts; each bit from 0 to n-1 that is
+     * 0 in it is a taxon with no data. */
     TUSVLANE_UNSEEN = 16
 };
 
@@ -245,8 +246,9 @@ tusvlane_state tusvlane_start(void);
  *   the state has no partition;
  * - 16 when a taxon is in none of the partitions that are held. It is looked
  *   for where the partitions are over: the offset is above 4, the state has
- *   partitions and no moves, and the job ends there or the tag at the offset
- *   is not 3. The place is the job's length, or the offset;
+ *   partitions and no moves, and either the offset is the job's length or
+ *   more, and the place is the job's length; or the tag at the offset is not
+ *   3, and the place is the offset;
  * - when the offset is the job's length or more: the end of the job;
  * - the field at the offset. At 0 it is n, at 4 the table. Elsewhere it is a
  *   partition where the state has none; otherwise a move, or a partition where

@@ -15,10 +15,9 @@ use Rattle.tree.specs.Lists.{mem}
 use Rattle.tree.specs.Splits.{holdsLowest, splits, distBy, dist}
 use Rattle.tree.specs.Splits.{distancesBy, distances, unchanged, Gains}
 use Rattle.tree.specs.Refusals.{Said, gives, refuses, written, each}
-use Rattle.tree.specs.Refusals.{treeChecks, allSeen, partitionsChecks}
-use Rattle.tree.specs.Refusals.{roomChecks, Accepted}
-use Rattle.tree.proofs.RefusalLaws.{Pass, gives-pass, pass-after}
-use Rattle.tree.proofs.Seen.{seen-in, seen-gains}
+use Rattle.tree.specs.Refusals.{allSeen, roomChecks, Accepted}
+use Rattle.tree.proofs.RefusalLaws.{Pass}
+use Rattle.tree.proofs.Seen.{given-seen, seen-gains}
 use Rattle.tree.proofs.Monotone.{dist-lowest, distances-lowest, dist-mono}
 use Rattle.tree.proofs.FewTaxa.{few-same}
 use Rattle.table.specs.Says.{numberOf, checkSays}
@@ -331,10 +330,7 @@ pub judged-seen : (n : ℕ) (t ys : List ℕ) (m : Move) (room : ℕ) (ds : List
     → inSome ys i ≡ true
 judged-seen n t ys m room ds h i l =
     let cs = moveChecks n t m ++ roomChecks (length ys) room in
-    let p = gives-pass (treeChecks n t ++ partitionsChecks n ys ++ cs)
-    (distances n t (moved n t m) ys) ds h in
-    let q = pass-after (treeChecks n t) (partitionsChecks n ys ++ cs) p in
-    seen-in n ys (q .1 .0) i l
+    given-seen n t ys cs (distances n t (moved n t m) ys) ds h i l
 
 pub listed-seen : (n : ℕ) (t ys : List ℕ) (m : Move) (k room place : ℕ)
     (ls : List ℕ) → linesSaid n t ys m k room place ≡ gives ls → (i : ℕ)
@@ -342,9 +338,7 @@ pub listed-seen : (n : ℕ) (t ys : List ℕ) (m : Move) (k room place : ℕ)
 listed-seen n t ys m k room place ls h i l =
     let xs = linesOf n t ys m k in
     let cs = moveChecks n t m ++ roomChecks (place + length xs) room in
-    let p = gives-pass (treeChecks n t ++ partitionsChecks n ys ++ cs) xs ls h in
-    let q = pass-after (treeChecks n t) (partitionsChecks n ys ++ cs) p in
-    seen-in n ys (q .1 .0) i l
+    given-seen n t ys cs xs ls h i l
 
 -- So it is in a job: where a field gives lines, each taxon is in a partition.
 pub lines-seen : (j : List ℕ) (k k′ : Known) (ls : List ℕ)
@@ -353,8 +347,8 @@ pub lines-seen : (j : List ℕ) (k k′ : Known) (ls : List ℕ)
 lines-seen = field-seen
 
 -- The bitwise or of the partitions has exactly the taxa that are in one.
-pub union-seen : (ys : List ℕ) (i : ℕ) → has (union ys) i ≡ inSome ys i
-union-seen = has-union
+pub union-has : (ys : List ℕ) (i : ℕ) → has (union ys) i ≡ inSome ys i
+union-has = has-union
 
 -- The steps in order, with the program's memory, write the listing of the
 -- whole job as defined.

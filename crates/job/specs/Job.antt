@@ -112,7 +112,8 @@ fieldOf job k tag =
     pick (eqb tag 1) (taxaStep job (k .at)) (pick (eqb tag 2) (tableStep job (k .at) (k .taxa)) (pick (eqb tag 3) (partitionStep job k) (moveStep job k)))
 
 -- Partitions have been read, and no move: the next field may be the first
--- after the partitions.
+-- after the partitions. At 0 and 4 stand n and the table, whatever a state says
+-- of partitions.
 abbrev pub partsRead : Known → Bool
 partsRead k = ltb 4 (k .at) && leb 1 (length (k .parts)) && eqb (k .moves) 0
 

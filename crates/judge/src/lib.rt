@@ -13,7 +13,6 @@ ghost use Rattle.tree.specs.Refusals.{Accepted, each, allSeen, partitionsChecks
 ghost use Rattle.tree.proofs.RefusalLaws.{Pass};
 ghost use Rattle.near.specs.Near.{Near};
 ghost use Rattle.sides.specs.Filled.{Sides};
-ghost use Rattle.sides.specs.Filled.{Sides};
 ghost use Rattle.moves.specs.Moves as moves_spec;
 ghost use Rattle.walks.specs.Way.{Listed, room};
 ghost use Rattle.fits.specs.Bytes.{moveOf, fittedSays};

@@ -7,12 +7,19 @@ use Prim.Native.Nat.{ℕ, _<_}
 use Rattle.taxa.specs.Sets.{has, inSome, Sub}
 use Rattle.taxa.proofs.Bools.{or-left, or-right, or-cases}
 use Rattle.tree.specs.Splits.{Gains}
-use Rattle.tree.specs.Refusals.{allSeen}
+use Rattle.tree.specs.Refusals.{Check, gives, judged, treeChecks, allSeen, partitionsChecks}
+use Rattle.tree.proofs.RefusalLaws.{gives-pass, pass-after}
 use Rattle.tree.proofs.RowCounts.{every-all, all-every}
 
 -- Each taxon is in some partition of such a list.
 pub seen-in : (n : ℕ) (ys : List ℕ) → allSeen n ys ≡ true → (i : ℕ) → i < n → inSome ys i ≡ true
 seen-in n ys h i l = every-all (inSome ys) n h i l
+
+-- So it is where checks that go through those of a list give their answer.
+pub given-seen : {A : Type 0} (n : ℕ) (t ys : List ℕ) (cs : List Check) (a b : A) → judged (treeChecks n t ++ partitionsChecks n ys ++ cs) a ≡ gives b → (i : ℕ) → i < n → inSome ys i ≡ true
+given-seen n t ys cs a b h i l =
+    let p = gives-pass (treeChecks n t ++ partitionsChecks n ys ++ cs) a b h in
+    seen-in n ys (pass-after (treeChecks n t) (partitionsChecks n ys ++ cs) p .1 .0) i l
 
 -- What is in some partition stays so where each of them gains members.
 in-gains : (n : ℕ) (ys zs : List ℕ) → Gains n ys zs → (i : ℕ) → inSome ys i ≡ true → inSome zs i ≡ true

@@ -29,7 +29,7 @@ use Rattle.tusvlane.specs.declared.Comparison.{Comparison}
 use Rattle.tusvlane.specs.declared.Placed.{Placed}
 use Rattle.tusvlane.specs.declared.StepAnswer.{StepAnswer}
 use Rattle.tusvlane.specs.Answers.{codeOf, answerOf, comparisonOf, placedOf, stepAnswerOf}
-use Rattle.tusvlane.specs.Numbers.{Given, isNumber, Numbered, answered, refused, readSaid, stepSaid}
+use Rattle.tusvlane.specs.Numbers.{Given, isRefusal, Numbered, answered, refused, readSaid, stepSaid}
 use Rattle.tusvlane.specs.Promises.{Induces, Applies, Judges, Lists, Plants, Steps}
 
 -- ---- the numbers of checks
@@ -37,31 +37,31 @@ use Rattle.tusvlane.specs.Promises.{Induces, Applies, Judges, Lists, Pla
 -- Each check on a list has such a number.
 allRanged : List Check → Bool
 allRanged [] = true
-allRanged ((b else k) ∷ cs) = isNumber k && allRanged cs
+allRanged ((b else k) ∷ cs) = isRefusal k && allRanged cs
 
 -- A refusal has such a number.
 abbrev Ranged : {A : Type 0} → Said A → Type 0
 Ranged (gives a) = Unit {0}
-Ranged (refuses k) = isNumber k ≡ true
+Ranged (refuses k) = isRefusal k ≡ true
 
 judged-ranged : {A : Type 0} (cs : List Check) (a : A) → allRanged cs ≡ true → Ranged (judged cs a)
 unfolding judged allRanged
 judged-ranged [] a h = tt
-judged-ranged ((true else k) ∷ cs) a h = judged-ranged cs a (and-right (isNumber k) (allRanged cs) h)
-judged-ranged ((false else k) ∷ cs) a h = and-left (isNumber k) (allRanged cs) h
+judged-ranged ((true else k) ∷ cs) a h = judged-ranged cs a (and-right (isRefusal k) (allRanged cs) h)
+judged-ranged ((false else k) ∷ cs) a h = and-left (isRefusal k) (allRanged cs) h
 
 -- A number that is 0 for an answer, and a refusal's own for a refusal, stands
 -- for what the call says.
 stands-for : {A : Type 0} (f : Said A → ℕ) → ((a : A) → f (gives a) ≡ 0) → ((k : ℕ) → f (refuses k) ≡ k) → (s : Said A) → Ranged s → (k : ℕ) → k ≡ f s → Numbered s k
 stands-for f z e (gives a) w k h = answered a refl (h ∙ z a)
-stands-for f z e (refuses j) w k h = let i : k ≡ j = h ∙ e j in refused (ap refuses (sym i)) (ap isNumber i ∙ w)
+stands-for f z e (refuses j) w k h = let i : k ≡ j = h ∙ e j in refused (ap refuses (sym i)) (ap isRefusal i ∙ w)
 
 -- So it is 0 exactly when the call gives its answer.
 pub zero-iff : {A : Type 0} (s : Said A) (k : ℕ) → Numbered s k → (k ≡ 0) ↔ Given s
 zero-iff (gives a) k (answered b e z) = (λ h. tt, λ g. z)
 zero-iff (refuses j) k (answered b e z) = absurd (let w : _≡_ {A = ℕ} 0 1 = cc in omega arith)
 zero-iff (gives a) k (refused e l) = absurd (let w : _≡_ {A = ℕ} 0 1 = cc in omega arith)
-zero-iff (refuses j) k (refused e l) = (λ h. absurd (false≢true (sym (ap isNumber h) ∙ l)), λ g. absurd g)
+zero-iff (refuses j) k (refused e l) = (λ h. absurd (false≢true (sym (ap isRefusal h) ∙ l)), λ g. absurd g)
 
 -- ---- the calls
 module _ (n : ℕ) (t : List ℕ) where
@@ -116,8 +116,8 @@ ranged-read n s room h (of-tree w o g l e) = subst (λ (x : Heard (List ℕ)). R
 
 read-stands : (h : Heard (List ℕ)) → Ranged (readSaid h) → (k : ℕ) → k ≡ placedOf (told h) .refusal → Numbered (readSaid h) k
 read-stands (reader.gives t) w k e = answered tt refl e
-read-stands (reader.refuses j) w k e = refused (ap refuses (sym e)) (ap isNumber e ∙ w)
-read-stands (refusesAt j p) w k e = refused (ap refuses (sym e)) (ap isNumber e ∙ w)
+read-stands (reader.refuses j) w k e = refused (ap refuses (sym e)) (ap isRefusal e ∙ w)
+read-stands (refusesAt j p) w k e = refused (ap refuses (sym e)) (ap isRefusal e ∙ w)
 
 pub read-number : (n : ℕ) (s out : List ℕ) (r : Placed) (out′ : List ℕ) (p : Plants n s out r out′) → Numbered (readSaid (p .heard)) (r .refusal)
 read-number n s out r out′ p = read-stands (p .heard) (ranged-read n s (length out) (p .heard) (p .by)) (r .refusal) (ap (λ (a : Placed). a .refusal) (p .says))
@@ -204,7 +204,7 @@ ranged-stepped job s table parts room =
 step-stands : (o : Outcome) → Ranged (stepSaid o) → (k : ℕ) → k ≡ stepAnswerOf (toldOf o) .refusal → Numbered (stepSaid o) k
 step-stands (next q ls) w k h = answered tt refl h
 step-stands over w k h = answered tt refl h
-step-stands (stop j p) w k h = refused (ap refuses (sym h)) (ap isNumber h ∙ w)
+step-stands (stop j p) w k h = refused (ap refuses (sym h)) (ap isRefusal h ∙ w)
 
 pub step-number : (job : List ℕ) (s : State) (table parts out : List ℕ) (r : StepAnswer) (table′ parts′ out′ : List ℕ)
     → Steps (stepped job s table parts (length out)) r table table′ parts parts′ out out′ → Numbered (stepSaid (stepped job s table parts (length out))) (r .refusal)

@@ -16,14 +16,14 @@ Given (gives a) = Unit {0}
 Given (refuses k) = ⊥
 
 -- The numbers that refusals have.
-abbrev pub isNumber : ℕ → Bool
-isNumber k = leb 1 k && leb k 14 || eqb k 16
+abbrev pub isRefusal : ℕ → Bool
+isRefusal k = leb 1 k && leb k 14 || eqb k 16
 
 -- The number k stands for what a call says: 0 for an answer, and its own
 -- number for a refusal.
 pub data Numbered {A : Type 0} (s : Said A) (k : ℕ) : Type 0 where
   answered : (a : A) → s ≡ gives a → k ≡ 0 → Numbered s k
-  refused : s ≡ refuses k → isNumber k ≡ true → Numbered s k
+  refused : s ≡ refuses k → isRefusal k ≡ true → Numbered s k
 
 -- Whether a text is refused.
 abbrev pub readSaid : Heard (List ℕ) → Said (Unit {0})

@@ -136,7 +136,7 @@ pub extern "C" fn tusvlane_apply_move(n: usize, table: &mut [u8], m: Move) -> u3
 }
 
 // Writes the distance that a move makes over each partition; how many are 0.
-// Refusals 1 to 11.
+// Refusals 1 to 11, and 16 after 6.
 #[no_mangle]
 pub extern "C" fn tusvlane_judge_move(
     n: usize,
@@ -171,7 +171,7 @@ pub extern "C" fn tusvlane_judge_one(n: usize, table: &[u8], partition: u64, m: 
 }
 
 // Makes a move and writes its lines, under the number stated, into out from
-// the place on; the place after them. Refusals 1 to 11.
+// the place on; the place after them. Refusals 1 to 11, and 16 after 6.
 #[no_mangle]
 pub extern "C" fn tusvlane_list_move(
     n: usize,
