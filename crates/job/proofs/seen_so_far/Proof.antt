@@ -1,5 +1,6 @@
 -- `job::seen_so_far` meets its contract. Assumes nothing.
 use mathlib.Core.Path.{sym}
+use native.Mathlib.Omega.{arith}
 use lib.Seq.{length-take-le}
 use Rattle.job.proofs.SeenLaws.{seen-early, seen-none, seen-moved, seen-all}
 use Rattle.job.proofs.seen_so_far.Statement.{statement}
@@ -23,7 +24,7 @@ returns-3 c =
 slice-aggregate-all-seen : tie.Need-slice-aggregate-all-seen
 slice-aggregate-all-seen c =
     let st = c .before .before .before .before .before .before .before .before in
-    sym (length-take-le (st .args .s .parts) (st .args .parts .now) (st .pre .2))
+    sym (length-take-le _ (st .args .parts .now) (omega (arith, st .pre .2)))
 
 all-seen-requires : tie.Need-all-seen-requires
 all-seen-requires c κs =
