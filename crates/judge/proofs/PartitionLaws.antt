@@ -3,7 +3,7 @@ use mathlib.Core.Path.{_≡_, sym, ap, _∙_}
 use mathlib.Core.Logic.{_⊎_, inl, inr}
 use mathlib.Core.Bool.{Bool, true, false, not, _&&_, and-true, and-assoc}
 use mathlib.Core.List.{List, [], _∷_}
-use Prim.Native.Nat.{ℕ, _^_, _≤_, _<_}
+use Prim.Native.Nat.{ℕ, _^_, _<_}
 use native.Mathlib.Omega.{arith}
 use lib.Bits.{bitOr}
 use lib.Dec.{eqb, ltb, leb}
@@ -11,7 +11,7 @@ use lib.Pow.{pow-pos}
 use borrow.Author.Tests.{lt-ltb, ltb-true, le-leb, lt-leb, eqb-true, eq-eqb}
 use Rattle.taxa.specs.Most.{mostPartitions}
 use Rattle.taxa.specs.Sets.{has, full, less, joined, union, inSome}
-use Rattle.taxa.proofs.Bools.{either, not-both, and-left, and-right, and-both, and-false-r, bool-eq}
+use Rattle.taxa.proofs.Bools.{either, not-both, and-left, and-right, and-both, bool-eq}
 use Rattle.taxa.proofs.Sets.{has-none, has-ones, has-less, none-zero}
 use Rattle.taxa.proofs.Unions.{within-or, has-union}
 use Rattle.tree.specs.Tree.{every}
@@ -63,14 +63,10 @@ module _ (n : ℕ) where
               let l : i < n = ltb-true i n (sym (has-ones n i) ∙ and-left (has (full n) i) (not (has y i)) both) in
               not-both (not (has y i)) (and-right (has (full n) i) (not (has y i)) both) (ap not (every-all (has y) n h i l))
 
--- ---- the tests of 6 in order
-module _ (n count all : ℕ) where
-  pub right-none : count ≡ 0 → false ≡ (leb 1 count && leb count mostPartitions && ltb all (2 ^ n))
-  right-none h = rw (lt-leb 1 count (omega (arith, h)))
+-- ---- how many partitions there are
+module _ (count : ℕ) where
+  pub count-none : count ≡ 0 → false ≡ (leb 1 count && leb count mostPartitions)
+  count-none h = rw (lt-leb 1 count (omega (arith, h)))
 
-  pub right-many : mostPartitions < count → false ≡ (leb 1 count && leb count mostPartitions && ltb all (2 ^ n))
-  right-many h = rw (lt-leb count mostPartitions h, and-false-r (leb 1 count))
-
-  pub right-all : (count ≡ 0 → ⊥) → count ≤ mostPartitions → (b : Bool) → b ≡ ltb all (2 ^ n)
-      → b ≡ (leb 1 count && leb count mostPartitions && ltb all (2 ^ n))
-  right-all d h b e = rw (le-leb 1 count (omega (arith, d)), le-leb count mostPartitions h) e
+  pub count-some : (count ≡ 0 → ⊥) → leb count mostPartitions ≡ (leb 1 count && leb count mostPartitions)
+  count-some d = rw (le-leb 1 count (omega (arith, d)))

@@ -66,28 +66,35 @@ judged-two [] ds = refl
 judged-two ((true else k) ∷ cs) ds = judged-two cs ds
 judged-two ((false else k) ∷ cs) ds = refl
 
--- What the checks of a list and a move say, all being the union of the list.
-module _ (n : ℕ) (t ys : List ℕ) (m : Move) (all : ℕ) (is : all ≡ union ys) where
+-- What the checks of a list and a move say at each test.
+module _ (n : ℕ) (t ys : List ℕ) (m : Move) where
+  abbrev counted : Bool
+  counted = leb 1 (length ys) && leb (length ys) mostPartitions
+
   abbrev right : Bool
-  right = leb 1 (length ys) && leb (length ys) mostPartitions && each (λ y. ltb y (2 ^ n)) ys
+  right = counted && each (λ y. ltb y (2 ^ n)) ys
 
-  abbrev union-right : Bool
-  union-right = leb 1 (length ys) && leb (length ys) mostPartitions && ltb all (2 ^ n)
+  refused-6 : right ≡ false → refuses 6 ≡ callSaid n t ys m
+  refused-6 h = sym (judged-fail right 6 ((allSeen n ys else 16) ∷ moveChecks n t m) tt h)
 
-  by-union : union-right ≡ right
-  by-union = ap (λ (b : Bool). leb 1 (length ys) && leb (length ys) mostPartitions && b) (ap (λ (z : ℕ). ltb z (2 ^ n)) is ∙ within-union n ys)
+  pub count-6 : counted ≡ false → refuses 6 ≡ callSaid n t ys m
+  count-6 h = refused-6 (ap (λ (b : Bool). b && each (λ y. ltb y (2 ^ n)) ys) h)
 
-  pub call-6 : union-right ≡ false → refuses 6 ≡ callSaid n t ys m
-  call-6 h = sym (judged-fail right 6 ((allSeen n ys else 16) ∷ moveChecks n t m) tt (sym by-union ∙ h))
+  -- all being the union of the list
+  module _ (h : counted ≡ true) (all : ℕ) (is : all ≡ union ys) where
+    by-union : right ≡ ltb all (2 ^ n)
+    by-union =
+        ap (λ (b : Bool). b && each (λ y. ltb y (2 ^ n)) ys) h ∙ sym (ap (λ (z : ℕ). ltb z (2 ^ n)) is ∙ within-union n ys)
 
-  module _ (h : union-right ≡ true) where
-    past : callSaid n t ys m ≡ judged ((every (has all) n else 16) ∷ moveChecks n t m) tt
-    past =
-        judged-next right 6 ((allSeen n ys else 16) ∷ moveChecks n t m) tt (sym by-union ∙ h)
-        ∙ ap (λ (b : Bool). judged ((b else 16) ∷ moveChecks n t m) tt) (sym (ap (λ (z : ℕ). every (has z) n) is ∙ seen-union n ys))
+    pub union-6 : ltb all (2 ^ n) ≡ false → refuses 6 ≡ callSaid n t ys m
+    union-6 w = refused-6 (by-union ∙ w)
 
-    pub call-rest : firstOf (unionSaid n all) (fitSaid n t m) ≡ callSaid n t ys m
-    call-rest = sym (past ∙ judged-two ((every (has all) n else 16) ∷ []) (moveChecks n t m))
+    pub call-rest : ltb all (2 ^ n) ≡ true → firstOf (unionSaid n all) (fitSaid n t m) ≡ callSaid n t ys m
+    call-rest w =
+        let seen : every (has all) n ≡ allSeen n ys = ap (λ (z : ℕ). every (has z) n) is ∙ seen-union n ys in
+        sym (judged-next right 6 ((allSeen n ys else 16) ∷ moveChecks n t m) tt (by-union ∙ w)
+        ∙ ap (λ (b : Bool). judged ((b else 16) ∷ moveChecks n t m) tt) (sym seen)
+        ∙ judged-two ((every (has all) n else 16) ∷ []) (moveChecks n t m))
 
 -- Where they refuse nothing, the list passes and the move passes.
 module _ (n : ℕ) (t ys : List ℕ) (m : Move) where

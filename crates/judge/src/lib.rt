@@ -168,19 +168,14 @@ pub fn judge_groups(
     rules::distance_each(m.kind == 1, &gs[..k], &hs[..j], ys, out)
 }
 
-// Whether there is one partition at least and not too many, and their union
-// names no taxon n or above.
-fn partitions_right(n: usize, count: usize, all: u64) -> bool
-    requires { ⌜ (4 ≤ n) × (n ≤ most) ⌝ }
-    ensures { λ b. ⌜ b ≡ (leb 1 count && leb count mostPartitions && ltb all (2 ^ n)) ⌝ }
+// Whether there is one partition at least and not too many.
+fn count_right(count: usize) -> bool
+    ensures { λ b. ⌜ b ≡ (leb 1 count && leb count mostPartitions) ⌝ }
 {
     if count == 0 {
         return false;
     }
-    if PARTITIONS < count {
-        return false;
-    }
-    taxa::within(all, n)
+    count <= PARTITIONS
 }
 
 // Whether each of the n taxa is in y.
@@ -227,8 +222,11 @@ pub fn call_fits(n: usize, t: &[u8], s: &[u64], ys: &[u64], m: Move) -> Fitted
     requires { ⌜ (Accepted n (now t)) × (Sides n (now t) (now s)) ⌝ }
     ensures { λ r. ⌜ fittedSays r ≡ callSaid n (now (t .entry)) (now (ys .entry)) (moveOf m) ⌝ }
 {
+    if !count_right(ys.len()) {
+        return Fitted::Refused(Refusal::Partition);
+    }
     let all = taxa::union(ys);
-    if !partitions_right(n, ys.len(), all) {
+    if !taxa::within(all, n) {
         return Fitted::Refused(Refusal::Partition);
     }
     let seen = union_fits(n, all);
