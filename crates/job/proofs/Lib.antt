@@ -1,10 +1,12 @@
 pub mod FieldSteps
+pub mod GoingLaws
 pub mod PlainListing
 pub mod ReadLaws
-pub mod RoomLaws
 pub mod RunLaws
 pub mod SeenLaws
 pub mod SoundLaws
 pub mod StateLaws
+pub mod StepForward
+pub mod StepIsField
 pub mod StepLaws
 pub mod Turns

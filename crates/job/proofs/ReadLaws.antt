@@ -18,9 +18,13 @@ use Rattle.tree.specs.Refusals.{Said, gives, refuses, judged, countChecks, tabl
 use Rattle.tree.proofs.RefusalLaws.{judged-next, judged-fail, judged-all, refuses-any, gives-pass}
 use Rattle.moves.specs.Moves.{Move}
 use Rattle.fields.specs.Fields.{statedAt, contentAt, numberIn, moveIn, headed, complete}
-use Rattle.job.specs.Job.{Outcome, next, stop, after, taxaField, tableField, partitionField, withTaxa, withTable, withPartition, taxaStep, tableStep, keptStep, partitionStep}
-use Rattle.job.specs.Steps.{Told, told, stopped, toldOf, tableThen, partsThen, fitting, knownOf}
+use Rattle.text.specs.Lines.{putFirst}
+use Rattle.job.specs.Job.{Outcome, next, stop, after, taxaField, tableField, partitionField}
+use Rattle.job.specs.Job.{withTaxa, withPartition, taxaStep, tableStep, keptStep, putStep, partitionStep}
+use Rattle.job.specs.Steps.{Lent, lending, heldTable, knownOf, fitting, told, stopped, toldOf, Gives}
 use Rattle.job.specs.declared.State.{State}
+use Rattle.job.specs.declared.Stepped.{Stepped}
+use Rattle.job.proofs.StepLaws.{lending-same, gives-as, table-first, table-fits}
 
 -- ---- a length that is right
 pub reaches : (job : List ℕ) (at l : ℕ) → (headed job at && eqb (statedAt job at) l && complete job at l) ≡ true → at + 3 + l ≤ length job
@@ -53,109 +57,141 @@ module _ (job : List ℕ) (at : ℕ) where
         taxa-told (gives (getD job (at + 3) 0)) (past-length ∙ judged-all (countChecks (getD job (at + 3) 0)) (getD job (at + 3) 0)
         (and-both (leb 4 (getD job (at + 3) 0)) (leb (getD job (at + 3) 0) most) (le-leb 4 (getD job (at + 3) 0) a) (le-leb (getD job (at + 3) 0) most b), tt))
 
+-- ---- the table of a tree
+module _ (at n : ℕ) (t table : List ℕ) where
+  abbrev lent : Lent
+  lent = lending table [] []
+
+  -- the outcome where the table fits if b says so
+  abbrev put-so : Bool → Outcome
+  put-so b = pick (b && true && true) (putStep at n t) (stop 11 at)
+
+  pub put-11 : length table < length t → fitting at lent (putStep at n t) ≡ stop 11 at
+  put-11 l = ap put-so (lt-leb (length t) (length table) l)
+
+  pub put-next : length t ≤ length table → (k : ℕ) → k ≡ length t → (table′ : List ℕ)
+      → table′ ≡ take (length t) t ++ drop (length t) table
+      → Gives (fitting at lent (putStep at n t)) (Stepped.Next (record { at = at + 3 + k; taxa = n; parts = 0; moves = 0 }) 0) lent (lending table′ [] [])
+  put-next l k k-is table′ e =
+      gives-as (sym (ap put-so (le-leb (length t) (length table) l)))
+      (record {
+        says = ap (λ (j : ℕ). told (at + 3 + j) n 0 0 0) k-is;
+        memory = ap (λ (u : List ℕ). lending u [] []) (e ∙ ap (λ (u : List ℕ). u ++ drop (length t) table) (take-length t));
+      })
+
 -- ---- a table of the right length
 module _ (at n : ℕ) (t table : List ℕ) (big : 4 ≤ n) (few : n ≤ most) where
   past-1 : treeSaid n t ≡ judged (tableChecks n t) (tt {0})
   past-1 = judged-next (leb 4 n && leb n most) 1 (tableChecks n t) tt (and-both (leb 4 n) (leb n most) (le-leb 4 n big) (le-leb n most few))
 
-  kept-told : (s : Said (List ℕ)) → judged (tableChecks n t) t ≡ s
-      → (toldOf (after at s (λ u. next (withTable at n u) [])) ≡ toldOf (keptStep at n t)) × (tableThen (after at s (λ u. next (withTable at n u) [])) table ≡ tableThen (keptStep at n t) table)
-  kept-told s h = (sym (ap (λ (x : Said (List ℕ)). toldOf (after at x (λ u. next (withTable at n u) []))) h), sym (ap (λ (x : Said (List ℕ)). tableThen (after at x (λ u. next (withTable at n u) [])) table) h))
+  abbrev kept : Said (List ℕ) → Outcome
+  kept x = fitting at (lending table [] []) (after at x (putStep at n))
 
-  pub kept-refused : (k : ℕ) → treeSaid n t ≡ refuses k → (stopped k at ≡ toldOf (keptStep at n t)) × (table ≡ tableThen (keptStep at n t) table)
-  kept-refused k h = kept-told (refuses k) (refuses-any (tableChecks n t) (tt {0}) t k (sym past-1 ∙ h))
+  pub kept-refused : (k : ℕ) → treeSaid n t ≡ refuses k → fitting at (lending table [] []) (keptStep at n t) ≡ stop k at
+  kept-refused k h = ap kept (refuses-any (tableChecks n t) (tt {0}) t k (sym past-1 ∙ h))
 
-  pub kept-next : (k : ℕ) (table′ : List ℕ) → treeSaid n t ≡ gives tt → k ≡ length t → table′ ≡ take (length t) t ++ drop (length t) table
-      → (told (at + 3 + k) n 0 0 0 ≡ toldOf (keptStep at n t)) × (table′ ≡ tableThen (keptStep at n t) table)
-  kept-next k table′ h e c =
-      let w = kept-told (gives t) (judged-all (tableChecks n t) t (gives-pass (tableChecks n t) tt tt (sym past-1 ∙ h))) in
-      (ap (λ (j : ℕ). told (at + 3 + j) n 0 0 0) e ∙ w .0, c ∙ ap (λ (l : List ℕ). l ++ drop (length t) table) (take-length t) ∙ w .1)
+  pub kept-put : treeSaid n t ≡ gives tt → fitting at (lending table [] []) (putStep at n t) ≡ fitting at (lending table [] []) (keptStep at n t)
+  kept-put h = sym (ap kept (judged-all (tableChecks n t) t (gives-pass (tableChecks n t) tt tt (sym past-1 ∙ h))))
 
 -- ---- the table
 module _ (job : List ℕ) (at n : ℕ) (table : List ℕ) where
-  table-stop : (k : ℕ) → tableField job at n ≡ refuses k → (stopped k at ≡ toldOf (tableStep job at n)) × (table ≡ tableThen (tableStep job at n) table)
-  table-stop k h = (sym (ap (λ (x : Said (List ℕ)). toldOf (after at x (λ u. next (withTable at n u) []))) h), sym (ap (λ (x : Said (List ℕ)). tableThen (after at x (λ u. next (withTable at n u) [])) table) h))
+  abbrev t : List ℕ
+  t = contentAt job at (2 * rows n)
 
-  pub table-12 : length job < at + 3 → (stopped 12 at ≡ toldOf (tableStep job at n)) × (table ≡ tableThen (tableStep job at n) table)
-  table-12 h = table-stop 12 (judged-fail (headed job at) 12 _ (contentAt job at (2 * rows n)) (lt-leb (at + 3) (length job) h))
+  abbrev fitted : Said (List ℕ) → Outcome
+  fitted x = fitting at (lending table [] []) (after at x (putStep at n))
+
+  abbrev o : Outcome
+  o = fitting at (lending table [] []) (tableStep job at n)
+
+  pub table-12 : length job < at + 3 → o ≡ stop 12 at
+  table-12 h = ap fitted (judged-fail (headed job at) 12 _ t (lt-leb (at + 3) (length job) h))
 
   module _ (head : at + 3 ≤ length job) where
-    past-head : tableField job at n ≡ judged ((eqb (statedAt job at) (2 * rows n) else 2) ∷ (complete job at (2 * rows n) else 12) ∷ tableChecks n (contentAt job at (2 * rows n))) (contentAt job at (2 * rows n))
-    past-head = judged-next (headed job at) 12 _ (contentAt job at (2 * rows n)) (le-leb (at + 3) (length job) head)
+    past-head : tableField job at n ≡ judged ((eqb (statedAt job at) (2 * rows n) else 2) ∷ (complete job at (2 * rows n) else 12) ∷ tableChecks n t) t
+    past-head = judged-next (headed job at) 12 _ t (le-leb (at + 3) (length job) head)
 
-    pub table-2 : (statedAt job at ≡ 2 * rows n → ⊥) → (stopped 2 at ≡ toldOf (tableStep job at n)) × (table ≡ tableThen (tableStep job at n) table)
-    table-2 d = table-stop 2 (past-head ∙ judged-fail (eqb (statedAt job at) (2 * rows n)) 2 _ (contentAt job at (2 * rows n)) (ne-eqb (statedAt job at) (2 * rows n) d))
+    pub table-2 : (statedAt job at ≡ 2 * rows n → ⊥) → o ≡ stop 2 at
+    table-2 d = ap fitted (past-head ∙ judged-fail (eqb (statedAt job at) (2 * rows n)) 2 _ t (ne-eqb (statedAt job at) (2 * rows n) d))
 
     module _ (right : statedAt job at ≡ 2 * rows n) where
-      past-stated : tableField job at n ≡ judged ((complete job at (2 * rows n) else 12) ∷ tableChecks n (contentAt job at (2 * rows n))) (contentAt job at (2 * rows n))
-      past-stated = past-head ∙ judged-next (eqb (statedAt job at) (2 * rows n)) 2 _ (contentAt job at (2 * rows n)) (eq-eqb (statedAt job at) (2 * rows n) right)
+      past-stated : tableField job at n ≡ judged ((complete job at (2 * rows n) else 12) ∷ tableChecks n t) t
+      past-stated = past-head ∙ judged-next (eqb (statedAt job at) (2 * rows n)) 2 _ t (eq-eqb (statedAt job at) (2 * rows n) right)
 
-      pub table-cut : length job < at + 3 + 2 * rows n → (stopped 12 at ≡ toldOf (tableStep job at n)) × (table ≡ tableThen (tableStep job at n) table)
-      table-cut h = table-stop 12 (past-stated ∙ judged-fail (complete job at (2 * rows n)) 12 _ (contentAt job at (2 * rows n)) (lt-leb (at + 3 + 2 * rows n) (length job) h))
+      pub table-cut : length job < at + 3 + 2 * rows n → o ≡ stop 12 at
+      table-cut h = ap fitted (past-stated ∙ judged-fail (complete job at (2 * rows n)) 12 _ t (lt-leb (at + 3 + 2 * rows n) (length job) h))
 
-      pub table-kept : at + 3 + 2 * rows n ≤ length job → (d : ℕ) → d ≡ 2 * rows n → (a : Told) (table′ : List ℕ)
-          → (a ≡ toldOf (keptStep at n (take d (drop (at + 3) job)))) × (table′ ≡ tableThen (keptStep at n (take d (drop (at + 3) job))) table)
-          → (a ≡ toldOf (tableStep job at n)) × (table′ ≡ tableThen (tableStep job at n) table)
-      table-kept h d e a table′ p =
-          let w : tableField job at n ≡ judged (tableChecks n (contentAt job at (2 * rows n))) (contentAt job at (2 * rows n))
-          = past-stated ∙ judged-next (complete job at (2 * rows n)) 12 _ (contentAt job at (2 * rows n)) (le-leb (at + 3 + 2 * rows n) (length job) h) in
-          let o : keptStep at n (take d (drop (at + 3) job)) ≡ tableStep job at n
-          = ap (λ (j : ℕ). keptStep at n (take j (drop (at + 3) job))) e ∙ sym (ap (λ (x : Said (List ℕ)). after at x (λ u. next (withTable at n u) [])) w) in
-          (p .0 ∙ ap toldOf o, p .1 ∙ ap (λ (x : Outcome). tableThen x table) o)
+      pub table-kept : at + 3 + 2 * rows n ≤ length job → (d : ℕ) → d ≡ 2 * rows n
+          → fitting at (lending table [] []) (keptStep at n (take d (drop (at + 3) job))) ≡ o
+      table-kept h d e =
+          ap (λ (j : ℕ). fitting at (lending table [] []) (keptStep at n (take j (drop (at + 3) job)))) e
+          ∙ sym (ap fitted (past-stated ∙ judged-next (complete job at (2 * rows n)) 12 _ t (le-leb (at + 3 + 2 * rows n) (length job) h)))
 
 -- ---- a partition
-
--- the answer and the lent partitions afterwards are those of the step
-abbrev pub PartSaid : List ℕ → State → List ℕ → Told → List ℕ → Type 0
-PartSaid job s parts a parts′ =
-    let o = fitting (s .at) (length parts) 0 (partitionStep job (knownOf s [] parts)) in
-    (a ≡ toldOf o) × (parts′ ≡ partsThen o parts)
-
 module _ (job : List ℕ) (s : State) (parts : List ℕ) where
-  abbrev fitted : Said ℕ → Outcome
-  fitted x = fitting (s .at) (length parts) 0 (after (s .at) x (λ y. next (withPartition (knownOf s [] parts) y) []))
+  abbrev mine : Lent
+  mine = lending [] parts []
 
-  part-told : (x : Said ℕ) (o : Outcome) → partitionField job (s .at) (s .taxa) ≡ x → fitted x ≡ o → PartSaid job s parts (toldOf o) (partsThen o parts)
-  part-told x o h e = let w = sym e ∙ sym (ap fitted h) in (ap toldOf w, ap (λ (z : Outcome). partsThen z parts) w)
+  abbrev right : Bool
+  right = headed job (s .at) && eqb (statedAt job (s .at)) 8 && complete job (s .at) 8
 
-  pub part-12 : (headed job (s .at) && eqb (statedAt job (s .at)) 8 && complete job (s .at) 8) ≡ false → PartSaid job s parts (stopped 12 (s .at)) parts
-  part-12 h =
-      part-told (refuses 12) (stop 12 (s .at)) (judged-fail (headed job (s .at) && eqb (statedAt job (s .at)) 8 && complete job (s .at) 8) 12
-      (partitionChecks (s .taxa) (numberIn (contentAt job (s .at) 8))) (numberIn (contentAt job (s .at) 8)) h) refl
+  abbrev told-y : ℕ
+  told-y = numberIn (contentAt job (s .at) 8)
 
-  module _ (right : (headed job (s .at) && eqb (statedAt job (s .at)) 8 && complete job (s .at) 8) ≡ true) (y : ℕ) (is : y ≡ numberIn (contentAt job (s .at) 8)) where
+  abbrev parted : Said ℕ → Outcome
+  parted x = fitting (s .at) mine (after (s .at) x (λ y. next (withPartition (knownOf s mine) y) []))
+
+  abbrev p : Outcome
+  p = fitting (s .at) mine (partitionStep job (knownOf s mine))
+
+  pub part-12 : right ≡ false → p ≡ stop 12 (s .at)
+  part-12 h = ap parted (judged-fail right 12 (partitionChecks (s .taxa) told-y) told-y h)
+
+  module _ (whole : right ≡ true) (y : ℕ) (is : y ≡ told-y) where
     past-12 : partitionField job (s .at) (s .taxa) ≡ judged (partitionChecks (s .taxa) y) y
     past-12 =
-        judged-next (headed job (s .at) && eqb (statedAt job (s .at)) 8 && complete job (s .at) 8) 12
-        (partitionChecks (s .taxa) (numberIn (contentAt job (s .at) 8))) (numberIn (contentAt job (s .at) 8)) right ∙ sym (ap (λ (z : ℕ). judged (partitionChecks (s .taxa) z) z) is)
+        judged-next right 12 (partitionChecks (s .taxa) told-y) told-y whole
+        ∙ sym (ap (λ (z : ℕ). judged (partitionChecks (s .taxa) z) z) is)
 
-    pub part-6 : ltb y (2 ^ (s .taxa)) ≡ false → PartSaid job s parts (stopped 6 (s .at)) parts
-    part-6 h = part-told (refuses 6) (stop 6 (s .at)) (past-12 ∙ judged-fail (ltb y (2 ^ (s .taxa))) 6 [] y h) refl
+    pub part-6 : ltb y (2 ^ (s .taxa)) ≡ false → p ≡ stop 6 (s .at)
+    part-6 h = ap parted (past-12 ∙ judged-fail (ltb y (2 ^ (s .taxa))) 6 [] y h)
 
     module _ (bound : ltb y (2 ^ (s .taxa)) ≡ true) (held : s .parts ≤ length parts) where
-      given : partitionField job (s .at) (s .taxa) ≡ gives y
-      given = past-12 ∙ judged-all (partitionChecks (s .taxa) y) y (bound, tt)
+      abbrev ys : List ℕ
+      ys = take (s .parts) parts ++ y ∷ []
 
-      one-more : length (take (s .parts) parts ++ y ∷ []) ≡ s .parts + 1
+      one-more : length ys ≡ s .parts + 1
       one-more = length-append (take (s .parts) parts) (y ∷ []) ∙ ap (λ (n : ℕ). n + 1) (length-take-le (s .parts) parts held)
 
-      abbrev chosen : Bool → Outcome
-      chosen b = pick (b && true) (next (withPartition (knownOf s [] parts) y) []) (stop 11 (s .at))
+      -- the outcome where the partition fits if b says so
+      abbrev part-so : Bool → Outcome
+      part-so b = pick (true && b && true) (next (withPartition (knownOf s mine) y) []) (stop 11 (s .at))
 
-      pub part-11 : length parts ≤ s .parts → PartSaid job s parts (stopped 11 (s .at)) parts
-      part-11 h =
-          part-told (gives y) (stop 11 (s .at)) given
-          (ap chosen (lt-leb (length (take (s .parts) parts ++ y ∷ [])) (length parts) (omega (arith, one-more))))
+      given : p ≡ part-so (leb (length ys) (length parts))
+      given =
+          ap parted (past-12 ∙ judged-all (partitionChecks (s .taxa) y) y (bound, tt))
+          ∙ ap (λ (b : Bool). pick (b && leb (length ys) (length parts) && true) (next (withPartition (knownOf s mine) y) []) (stop 11 (s .at)))
+          (le-leb (length (heldTable s [])) 0 (table-fits s []))
 
-      pub part-next : s .parts < length parts → PartSaid job s parts (told (s .at + 11) (s .taxa) (s .parts + 1) (s .moves) 0) (set parts (s .parts) y)
+      pub part-11 : length parts ≤ s .parts → p ≡ stop 11 (s .at)
+      part-11 h = given ∙ ap part-so (lt-leb (length ys) (length parts) (omega (arith, one-more)))
+
+      -- the state after the partition
+      abbrev s′ : State
+      s′ = record { at = s .at + 11; taxa = s .taxa; parts = s .parts + 1; moves = s .moves }
+
+      pub part-next : s .parts < length parts → Gives p (Stepped.Next s′ 0) mine (lending [] (set parts (s .parts) y) [])
       part-next h =
-          let w =
-          part-told (gives y) (next (withPartition (knownOf s [] parts) y) []) given
-          (ap chosen (le-leb (length (take (s .parts) parts ++ y ∷ [])) (length parts) (omega (arith, one-more)))) in (
-            sym (ap (λ (n : ℕ). told (s .at + 11) (s .taxa) n (s .moves) 0) one-more) ∙ w .0,
-            set-split parts (s .parts) y h ∙ sym (append-snoc (take (s .parts) parts) y (drop (suc (s .parts)) parts))
-                ∙ ap (λ (n : ℕ). take (s .parts) parts ++ (y ∷ []) ++ drop n parts) (sym (one-more ∙ add-one (s .parts))) ∙ w .1,
-          )
+          let fits : p ≡ next (withPartition (knownOf s mine) y) [] =
+          given ∙ ap part-so (le-leb (length ys) (length parts) (omega (arith, one-more))) in
+          let there : set parts (s .parts) y ≡ putFirst ys parts =
+          set-split parts (s .parts) y h ∙ sym (append-snoc (take (s .parts) parts) y (drop (suc (s .parts)) parts))
+          ∙ ap (λ (n : ℕ). take (s .parts) parts ++ (y ∷ []) ++ drop n parts) (sym (one-more ∙ add-one (s .parts))) in
+          gives-as (sym fits)
+          (record {
+            says = sym (ap (λ (n : ℕ). told (s .at + 11) (s .taxa) n (s .moves) 0) one-more);
+            memory = lending-same (table-first s []) there refl;
+          })
 
 -- ---- a move
 byte-of : (job : List ℕ) (from i : ℕ) → i < 4 → getD job (from + i) 0 ≡ getD (take 4 (drop from job)) i 0

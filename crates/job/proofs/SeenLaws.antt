@@ -12,18 +12,18 @@ use Rattle.taxa.proofs.Bools.{and-false-r}
 use Rattle.tree.specs.Refusals.{_else_, Said, allSeen}
 use Rattle.tree.proofs.RefusalLaws.{judged-all, judged-next, judged-fail}
 use Rattle.job.specs.Job.{Known, over, stop, after, partsRead, seenSoFar, endStep}
-use Rattle.job.specs.Steps.{knownOf}
+use Rattle.job.specs.Steps.{lending, knownOf, Parted}
 use Rattle.job.specs.declared.State.{State}
 
-module _ (s : State) (parts : List ℕ) (h : s .parts ≤ length parts) where
+module _ (s : State) (parts : List ℕ) (h : Parted s parts) where
   abbrev k : Known
-  k = knownOf s [] parts
+  k = knownOf s (lending [] parts [])
 
   abbrev ys : List ℕ
   ys = take (s .parts) parts
 
   count : length ys ≡ s .parts
-  count = length-take-le (s .parts) parts h
+  count = length-take-le (s .parts) parts (h .for-parts)
 
   -- ---- where 16 is not looked for
   unread : partsRead k ≡ false → true ≡ seenSoFar k

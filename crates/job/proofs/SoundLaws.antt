@@ -14,10 +14,10 @@ use Rattle.taxa.proofs.Bools.{and-left, and-right, and-both}
 use Rattle.taxa.proofs.Sizes.{size-le}
 use Rattle.tree.specs.Tree.{rows}
 use Rattle.tree.specs.Splits.{splits, distBy, dist, distancesBy, distances}
-use Rattle.tree.specs.Refusals.{each, allSeen, tableChecks, Accepted}
+use Rattle.tree.specs.Refusals.{each, allSeen, tableChecks, Accepted, Pass}
 use Rattle.tree.proofs.Lists.{lacks-most}
 use Rattle.tree.proofs.Members.{members-count, members-is}
-use Rattle.tree.proofs.RefusalLaws.{Pass, pass-accepted}
+use Rattle.tree.proofs.RefusalLaws.{pass-accepted}
 use Rattle.tree.proofs.Seen.{seen-more}
 use Rattle.moves.specs.Moves.{Move, moved, moveChecks}
 use Rattle.moves.proofs.Moved.{moved-accepted}
@@ -56,68 +56,110 @@ unfolding each
 each-more f [] y h e = and-both (f y) true e refl
 each-more f (x ∷ ys) y h e = and-both (f x) (each f (ys ++ y ∷ [])) (and-left (f x) (each f ys) h) (each-more f ys y (and-right (f x) (each f ys) h) e)
 
+-- ---- a step goes on in the job
+
+-- A step past a field goes on in the job and not past its end, whatever was
+-- known before.
+pub field-forward : (job : List ℕ) (k k′ : Known) (ls : List ℕ) → field job k ≡ next k′ ls
+    → (k .at < k′ .at) × (k′ .at ≤ length job)
+field-forward job k k′ ls h = go (turn job k k′ ls h)
+  where
+    to : (q : Known) → k′ ≡ q → k .at < q .at → q .at ≤ length job → (k .at < k′ .at) × (k′ .at ≤ length job)
+    to q e l w = subst (λ (z : Known). (k .at < z .at) × (z .at ≤ length job)) (sym e) (l, w)
+
+    go : Turn job k k′ ls → (k .at < k′ .at) × (k′ .at ≤ length job)
+    go (read-taxa n a c b e l) =
+        to (withTaxa (k .at) n) e (omega arith) (omega (arith, leb-true (k .at + 3 + 1) (length job) c))
+    go (read-table t a c p e l) =
+        let whole = leb-true (k .at + 3 + 2 * rows (k .taxa)) (length job) c in
+        let long = eqb-true (length t) (2 * rows (k .taxa)) (p .0) in
+        to (withTable (k .at) (k .taxa) t) e (omega arith) (omega (arith, whole, long))
+    go (read-partition y a b few c r e l) =
+        to (withPartition k y) e (omega arith) (omega (arith, leb-true (k .at + 3 + 8) (length job) c))
+    go (read-move m a b c all p e l) =
+        to (withMove k m) e (omega arith) (omega (arith, leb-true (k .at + 3 + 4) (length job) c))
+
 -- ---- a step keeps it sound
 
 -- Before the first field all is sound.
 pub sound-start : (job : List ℕ) → Sound job nothing
-sound-start job = record { within = omega arith; few-moves = omega arith; few-parts = omega arith; seen = λ d. absurd (d refl); stage = at-start refl }
+sound-start job =
+    record {
+      within = omega arith;
+      few-moves = omega arith;
+      few-parts = omega arith;
+      seen = λ d. absurd (d refl);
+      stage = at-start refl;
+    }
 
 module _ (job : List ℕ) (k : Known) (s : Sound job k) where
   -- After n.
-  sound-taxa : (n : ℕ) → k .at ≡ 0 → complete job (k .at) 1 ≡ true → (leb 4 n && leb n most) ≡ true → Sound job (withTaxa (k .at) n)
-  sound-taxa n a c b = record {
-    within = omega (arith, leb-true (k .at + 3 + 1) (length job) c);
-    few-moves = omega arith;
-    few-parts = omega arith;
-    seen = λ d. absurd (d refl);
-    stage = at-table (omega arith) (leb-true 4 n (and-left (leb 4 n) (leb n most) b)) (leb-true n most (and-right (leb 4 n) (leb n most) b)) refl refl refl;
-  }
+  sound-taxa : (n : ℕ) → withTaxa (k .at) n .at ≤ length job → k .at ≡ 0 → (leb 4 n && leb n most) ≡ true
+      → Sound job (withTaxa (k .at) n)
+  sound-taxa n w a b =
+      let big = leb-true 4 n (and-left (leb 4 n) (leb n most) b) in
+      let few = leb-true n most (and-right (leb 4 n) (leb n most) b) in
+      record {
+        within = w;
+        few-moves = omega arith;
+        few-parts = omega arith;
+        seen = λ d. absurd (d refl);
+        stage = at-table (omega arith) big few refl refl refl;
+      }
 
   -- After the table.
-  sound-table : (t : List ℕ) → k .at ≡ 4 → complete job (k .at) (2 * rows (k .taxa)) ≡ true → Pass (tableChecks (k .taxa) t) → Sound job (withTable (k .at) (k .taxa) t)
+  sound-table : (t : List ℕ) → withTable (k .at) (k .taxa) t .at ≤ length job → k .at ≡ 4 → Pass (tableChecks (k .taxa) t)
+      → Sound job (withTable (k .at) (k .taxa) t)
   unfolding each
-  sound-table t a c p = record {
-    within = omega (arith, leb-true (k .at + 3 + 2 * rows (k .taxa)) (length job) c, eqb-true (length t) (2 * rows (k .taxa)) (p .0));
-    few-moves = omega arith;
-    few-parts = omega arith;
-    seen = λ d. absurd (d refl);
-    stage = past-table (omega arith) (pass-accepted (k .taxa) t (count-right k a (s .stage), p)) refl;
-  }
+  sound-table t w a p =
+      record {
+        within = w;
+        few-moves = omega arith;
+        few-parts = omega arith;
+        seen = λ d. absurd (d refl);
+        stage = past-table (omega arith) (pass-accepted (k .taxa) t (count-right k a (s .stage), p)) refl;
+      }
 
-  -- After a partition.
-  sound-partition : (y : ℕ) → (k .at ≡ 0 → ⊥) → (k .at ≡ 4 → ⊥) → length (k .parts) < mostPartitions → complete job (k .at) 8 ≡ true → ltb y (2 ^ k .taxa) ≡ true → Sound job (withPartition k y)
-  sound-partition y a b few c r = record {
-    within = omega (arith, leb-true (k .at + 3 + 8) (length job) c);
-    few-moves = omega (arith, s .few-moves);
-    few-parts = omega (arith, length-append (k .parts) (y ∷ []));
-    seen = λ d. seen-more (k .taxa) (k .parts) y (s .seen d);
-    stage = past-table (omega (arith, past k a b (s .stage) .0)) (past k a b (s .stage) .1) (each-more (λ x. ltb x (2 ^ k .taxa)) (k .parts) y (past k a b (s .stage) .2) r);
-  }
+  module _ (a : k .at ≡ 0 → ⊥) (b : k .at ≡ 4 → ⊥) where
+    abbrev read : (4 < k .at) × Accepted (k .taxa) (k .table) × (each (λ y. ltb y (2 ^ k .taxa)) (k .parts) ≡ true)
+    read = past k a b (s .stage)
 
-  -- After a move.
-  sound-move : (m : Move) → (k .at ≡ 0 → ⊥) → (k .at ≡ 4 → ⊥) → complete job (k .at) 4 ≡ true → allSeen (k .taxa) (k .parts) ≡ true → Pass (moveChecks (k .taxa) (k .table) m)
-      → Sound job (withMove k m)
-  sound-move m a b c all p = record {
-    within = omega (arith, leb-true (k .at + 3 + 4) (length job) c);
-    few-moves = omega (arith, s .few-moves);
-    few-parts = s .few-parts;
-    seen = λ d. all;
-    stage = past-table (omega (arith, past k a b (s .stage) .0)) (moved-accepted (k .taxa) (k .table) m (past k a b (s .stage) .1) p) (past k a b (s .stage) .2);
-  }
+    -- After a partition.
+    sound-partition : (y : ℕ) → withPartition k y .at ≤ length job → length (k .parts) < mostPartitions
+        → ltb y (2 ^ k .taxa) ≡ true → Sound job (withPartition k y)
+    sound-partition y w few r =
+        record {
+          within = w;
+          few-moves = omega (arith, s .few-moves);
+          few-parts = omega (arith, length-append (k .parts) (y ∷ []));
+          seen = λ d. seen-more (k .taxa) (k .parts) y (s .seen d);
+          stage = past-table (omega (arith, read .0)) (read .1) (each-more (λ x. ltb x (2 ^ k .taxa)) (k .parts) y (read .2) r);
+        }
 
-  -- A step past a field goes on in the job, and what is known after it is
-  -- sound.
-  pub sound-next : (k′ : Known) (ls : List ℕ) → field job k ≡ next k′ ls → Sound job k′ × (k .at < k′ .at)
+    -- After a move.
+    sound-move : (m : Move) → withMove k m .at ≤ length job → allSeen (k .taxa) (k .parts) ≡ true
+        → Pass (moveChecks (k .taxa) (k .table) m) → Sound job (withMove k m)
+    sound-move m w all p =
+        record {
+          within = w;
+          few-moves = omega (arith, s .few-moves);
+          few-parts = s .few-parts;
+          seen = λ d. all;
+          stage = past-table (omega (arith, read .0)) (moved-accepted (k .taxa) (k .table) m (read .1) p) (read .2);
+        }
+
+  -- What is known after a step past a field is sound.
+  pub sound-next : (k′ : Known) (ls : List ℕ) → field job k ≡ next k′ ls → Sound job k′
   sound-next k′ ls h = go (turn job k k′ ls h)
     where
-      to : (q : Known) → k′ ≡ q → Sound job q → k .at < q .at → Sound job k′ × (k .at < k′ .at)
-      to q e w l = subst (λ (z : Known). Sound job z × (k .at < z .at)) (sym e) (w, l)
+      to : (q : Known) → k′ ≡ q → (q .at ≤ length job → Sound job q) → Sound job k′
+      to q e f = subst (Sound job) (sym e) (f (rw e at (field-forward job k k′ ls h .1)))
 
-      go : Turn job k k′ ls → Sound job k′ × (k .at < k′ .at)
-      go (read-taxa n a c b e l) = to (withTaxa (k .at) n) e (sound-taxa n a c b) (omega arith)
-      go (read-table t a c p e l) = to (withTable (k .at) (k .taxa) t) e (sound-table t a c p) (omega arith)
-      go (read-partition y a b few c r e l) = to (withPartition k y) e (sound-partition y a b few c r) (omega arith)
-      go (read-move m a b c all p e l) = to (withMove k m) e (sound-move m a b c all p) (omega arith)
+      go : Turn job k k′ ls → Sound job k′
+      go (read-taxa n a c b e l) = to (withTaxa (k .at) n) e (λ w. sound-taxa n w a b)
+      go (read-table t a c p e l) = to (withTable (k .at) (k .taxa) t) e (λ w. sound-table t w a p)
+      go (read-partition y a b few c r e l) = to (withPartition k y) e (λ w. sound-partition a b y w few r)
+      go (read-move m a b c all p e l) = to (withMove k m) e (λ w. sound-move a b m w all p)
 
 -- ---- a step's lines
 

@@ -1,7 +1,7 @@
 -- The tests of a state, and the step after them: what the code gives at each
 -- of its returns is the outcome. Assumes nothing.
 use mathlib.Core.Path.{_≡_, refl, sym, ap, ap₂, _∙_}
-use mathlib.Core.Bool.{Bool, true, false, _&&_, _||_}
+use mathlib.Core.Bool.{Bool, true, false, _&&_, _||_, and-true}
 use mathlib.Core.List.{List, [], _∷_}
 use Prim.Native.Nat.{ℕ, _*_, _≤_, _<_}
 use native.Mathlib.Omega.{arith}
@@ -12,16 +12,16 @@ use Rattle.taxa.specs.Most.{most}
 use Rattle.taxa.specs.Sets.{pick}
 use Rattle.taxa.proofs.Bools.{and-left, and-right, and-both, and-false-r}
 use Rattle.tree.specs.Tree.{rows}
-use Rattle.tree.specs.Refusals.{_else_, Said, gives, refuses, judged}
+use Rattle.tree.specs.Refusals.{Check, _else_, Said, gives, refuses, judged}
 use Rattle.tree.proofs.RefusalLaws.{judged-next, judged-fail, gives-pass}
 use Rattle.table.specs.Says.{numberOf}
 use Rattle.table.proofs.Numbers.{number-one}
 use Rattle.table.specs.declared.Refusal.{Refusal}
 use Rattle.job.specs.Job.{Outcome, stop, after, field, longest}
-use Rattle.job.specs.Steps.{knownOf, stateChecks, stateSaid, Held, fitting, stepped, toldOf, steppedSays, tableThen, partsThen, outThen, Gives}
+use Rattle.job.specs.Steps.{Lent, knownOf, holds, stateChecks, stateSaid, Parted, Held, fitting}
+use Rattle.job.specs.Steps.{stepped, steppedSays, Gives}
 use Rattle.job.specs.declared.State.{State}
 use Rattle.job.specs.declared.Stepped.{Stepped}
-use Rattle.job.proofs.StepLaws.{gives-stop}
 
 -- ---- the first field, or 4 and more
 pub four-first : (at x : ℕ) → at ≡ 0 → true ≡ (eqb at 0 || leb 4 x)
@@ -33,82 +33,128 @@ four-later at x h = sym (ap (λ (b : Bool). b || leb 4 x) (ne-eqb at 0 h))
 four-of : (at x : ℕ) → (eqb at 0 || leb 4 x) ≡ true → (at ≡ 0 → ⊥) → 4 ≤ x
 four-of at x e h = leb-true 4 x (four-later at x h ∙ e)
 
+-- ---- what the memory has of a state
+module _ (s : State) (table parts : List ℕ) where
+  abbrev t : ℕ
+  t = 2 * rows (s .taxa)
+
+  abbrev has-table : Bool
+  has-table = leb (s .at) 4 || leb t (length table)
+
+  abbrev has-parts : Bool
+  has-parts = leb (s .parts) (length parts)
+
+  pub short-parts : length parts < s .parts → false ≡ (has-table && has-parts)
+  short-parts h = sym (ap (λ (b : Bool). has-table && b) (lt-leb (s .parts) (length parts) h) ∙ and-false-r has-table)
+
+  module _ (enough : s .parts ≤ length parts) where
+    by-table : (has-table && has-parts) ≡ has-table
+    by-table = ap (λ (b : Bool). has-table && b) (le-leb (s .parts) (length parts) enough) ∙ and-true has-table
+
+    pub no-table : s .at ≤ 4 → true ≡ (has-table && has-parts)
+    no-table l = sym (by-table ∙ ap (λ (b : Bool). b || leb t (length table)) (le-leb (s .at) 4 l))
+
+    pub some-table : 4 < s .at → (d : ℕ) → d ≡ t → leb d (length table) ≡ (has-table && has-parts)
+    some-table l d e =
+        ap (λ (j : ℕ). leb j (length table)) e
+        ∙ sym (by-table ∙ ap (λ (b : Bool). b || leb t (length table)) (lt-leb (s .at) 4 l))
+
 -- ---- what is said of a state
-module _ (s : State) (table parts : ℕ) where
-  pub many-taxa : most < s .taxa → refuses 1 ≡ stateSaid s table parts
-  many-taxa h = sym (judged-fail ((eqb (s .at) 0 || leb 4 (s .taxa)) && leb (s .taxa) most) 1 _ tt (ap (λ (b : Bool). (eqb (s .at) 0 || leb 4 (s .taxa)) && b) (lt-leb (s .taxa) most h) ∙ and-false-r (eqb (s .at) 0 || leb 4 (s .taxa))))
+module _ (s : State) (m : Lent) where
+  abbrev few : Bool
+  few = eqb (s .at) 0 || leb 4 (s .taxa)
 
-  pub few-taxa : (eqb (s .at) 0 || leb 4 (s .taxa)) ≡ false → refuses 1 ≡ stateSaid s table parts
-  few-taxa h = sym (judged-fail ((eqb (s .at) 0 || leb 4 (s .taxa)) && leb (s .taxa) most) 1 _ tt (ap (λ (b : Bool). b && leb (s .taxa) most) h))
+  abbrev offset : Bool
+  offset = eqb (s .at) 0 || leb 4 (s .at)
 
-  module _ (a : s .taxa ≤ most) (b : (eqb (s .at) 0 || leb 4 (s .taxa)) ≡ true) where
-    past-1 : stateSaid s table parts ≡ judged (((leb (2 * rows (s .taxa)) table && leb (s .parts) parts) else 11) ∷ (((eqb (s .at) 0 || leb 4 (s .at)) && leb (s .moves) longest) else 12) ∷ []) (tt {0})
-    past-1 = judged-next ((eqb (s .at) 0 || leb 4 (s .taxa)) && leb (s .taxa) most) 1 _ tt (and-both (eqb (s .at) 0 || leb 4 (s .taxa)) (leb (s .taxa) most) b (le-leb (s .taxa) most a))
+  abbrev check-12 : Check
+  check-12 = (offset && leb (s .moves) longest) else 12
 
-    pub short-table : table < 2 * rows (s .taxa) → refuses 11 ≡ stateSaid s table parts
-    short-table h = sym (past-1 ∙ judged-fail (leb (2 * rows (s .taxa)) table && leb (s .parts) parts) 11 _ tt (ap (λ (c : Bool). c && leb (s .parts) parts) (lt-leb (2 * rows (s .taxa)) table h)))
+  pub many-taxa : most < s .taxa → refuses 1 ≡ stateSaid s m
+  many-taxa h =
+      sym (judged-fail (few && leb (s .taxa) most) 1 _ tt
+      (ap (λ (b : Bool). few && b) (lt-leb (s .taxa) most h) ∙ and-false-r few))
 
-    pub short-parts : parts < s .parts → refuses 11 ≡ stateSaid s table parts
-    short-parts h = sym (past-1 ∙ judged-fail (leb (2 * rows (s .taxa)) table && leb (s .parts) parts) 11 _ tt (ap (λ (c : Bool). leb (2 * rows (s .taxa)) table && c) (lt-leb (s .parts) parts h) ∙ and-false-r (leb (2 * rows (s .taxa)) table)))
+  pub few-taxa : few ≡ false → refuses 1 ≡ stateSaid s m
+  few-taxa h =
+      sym (judged-fail (few && leb (s .taxa) most) 1 _ tt (ap (λ (b : Bool). b && leb (s .taxa) most) h))
 
-    module _ (d : 2 * rows (s .taxa) ≤ table) (e : s .parts ≤ parts) where
-      past-11 : stateSaid s table parts ≡ judged ((((eqb (s .at) 0 || leb 4 (s .at)) && leb (s .moves) longest) else 12) ∷ []) (tt {0})
-      past-11 = past-1 ∙ judged-next (leb (2 * rows (s .taxa)) table && leb (s .parts) parts) 11 _ tt (and-both (leb (2 * rows (s .taxa)) table) (leb (s .parts) parts) (le-leb (2 * rows (s .taxa)) table d) (le-leb (s .parts) parts e))
+  module _ (a : s .taxa ≤ most) (b : few ≡ true) where
+    past-1 : stateSaid s m ≡ judged ((holds s m else 11) ∷ check-12 ∷ []) (tt {0})
+    past-1 =
+        judged-next (few && leb (s .taxa) most) 1 _ tt
+        (and-both few (leb (s .taxa) most) b (le-leb (s .taxa) most a))
 
-      pub no-offset : (eqb (s .at) 0 || leb 4 (s .at)) ≡ false → refuses 12 ≡ stateSaid s table parts
-      no-offset h = sym (past-11 ∙ judged-fail ((eqb (s .at) 0 || leb 4 (s .at)) && leb (s .moves) longest) 12 [] tt (ap (λ (c : Bool). c && leb (s .moves) longest) h))
+    pub short-memory : holds s m ≡ false → refuses 11 ≡ stateSaid s m
+    short-memory h = sym (past-1 ∙ judged-fail (holds s m) 11 (check-12 ∷ []) tt h)
 
-      pub many-moves : longest < s .moves → refuses 12 ≡ stateSaid s table parts
-      many-moves h = sym (past-11 ∙ judged-fail ((eqb (s .at) 0 || leb 4 (s .at)) && leb (s .moves) longest) 12 [] tt (ap (λ (c : Bool). (eqb (s .at) 0 || leb 4 (s .at)) && c) (lt-leb (s .moves) longest h) ∙ and-false-r (eqb (s .at) 0 || leb 4 (s .at))))
+    module _ (d : holds s m ≡ true) where
+      past-11 : stateSaid s m ≡ judged (check-12 ∷ []) (tt {0})
+      past-11 = past-1 ∙ judged-next (holds s m) 11 (check-12 ∷ []) tt d
 
-      pub is-right : (eqb (s .at) 0 || leb 4 (s .at)) ≡ true → s .moves ≤ longest → gives (tt {0}) ≡ stateSaid s table parts
+      pub no-offset : offset ≡ false → refuses 12 ≡ stateSaid s m
+      no-offset h =
+          sym (past-11 ∙ judged-fail (offset && leb (s .moves) longest) 12 [] tt (ap (λ (c : Bool). c && leb (s .moves) longest) h))
+
+      pub many-moves : longest < s .moves → refuses 12 ≡ stateSaid s m
+      many-moves h =
+          sym (past-11 ∙ judged-fail (offset && leb (s .moves) longest) 12 [] tt
+          (ap (λ (c : Bool). offset && c) (lt-leb (s .moves) longest h) ∙ and-false-r offset))
+
+      pub is-right : offset ≡ true → s .moves ≤ longest → gives (tt {0}) ≡ stateSaid s m
       unfolding judged
-      is-right f g = sym (past-11 ∙ judged-next ((eqb (s .at) 0 || leb 4 (s .at)) && leb (s .moves) longest) 12 [] tt (and-both (eqb (s .at) 0 || leb 4 (s .at)) (leb (s .moves) longest) f (le-leb (s .moves) longest g)))
+      is-right f g =
+          sym (past-11 ∙ judged-next (offset && leb (s .moves) longest) 12 [] tt
+          (and-both offset (leb (s .moves) longest) f (le-leb (s .moves) longest g)))
 
 -- ---- a state of which nothing is refused
-pub held-of : (s : State) (table parts : List ℕ) → stateSaid s (length table) (length parts) ≡ gives (tt {0}) → Held s table parts
-held-of s table parts h =
-    let p = gives-pass (stateChecks s (length table) (length parts)) tt tt h in
+pub held-of : (s : State) (m : Lent) → stateSaid s m ≡ gives (tt {0}) → Held s m
+held-of s m h =
+    let p = gives-pass (stateChecks s m) tt tt h in
+    let has-table = leb (s .at) 4 || leb (2 * rows (s .taxa)) (length (m .table)) in
+    let has-parts = leb (s .parts) (length (m .parts)) in
+    let few = eqb (s .at) 0 || leb 4 (s .taxa) in
+    let offset = eqb (s .at) 0 || leb 4 (s .at) in
     record {
-      taxa-big = four-of (s .at) (s .taxa) (and-left (eqb (s .at) 0 || leb 4 (s .taxa)) (leb (s .taxa) most) (p .0));
-      taxa-few = leb-true (s .taxa) most (and-right (eqb (s .at) 0 || leb 4 (s .taxa)) (leb (s .taxa) most) (p .0));
-      for-table = leb-true (2 * rows (s .taxa)) (length table) (and-left (leb (2 * rows (s .taxa)) (length table)) (leb (s .parts) (length parts)) (p .1 .0));
-      for-parts = leb-true (s .parts) (length parts) (and-right (leb (2 * rows (s .taxa)) (length table)) (leb (s .parts) (length parts)) (p .1 .0));
-      offset = four-of (s .at) (s .at) (and-left (eqb (s .at) 0 || leb 4 (s .at)) (leb (s .moves) longest) (p .1 .1 .0));
-      few-moves = leb-true (s .moves) longest (and-right (eqb (s .at) 0 || leb 4 (s .at)) (leb (s .moves) longest) (p .1 .1 .0));
+      taxa-big = four-of (s .at) (s .taxa) (and-left few (leb (s .taxa) most) (p .0));
+      taxa-few = leb-true (s .taxa) most (and-right few (leb (s .taxa) most) (p .0));
+      for-table = λ l. leb-true (2 * rows (s .taxa)) (length (m .table))
+          (sym (ap (λ (b : Bool). b || leb (2 * rows (s .taxa)) (length (m .table))) (lt-leb (s .at) 4 l))
+          ∙ and-left has-table has-parts (p .1 .0));
+      for-parts = leb-true (s .parts) (length (m .parts)) (and-right has-table has-parts (p .1 .0));
+      offset = four-of (s .at) (s .at) (and-left offset (leb (s .moves) longest) (p .1 .1 .0));
+      few-moves = leb-true (s .moves) longest (and-right offset (leb (s .moves) longest) (p .1 .1 .0));
+    }
+
+-- The test of 16 asks less.
+pub parted-of : {s : State} {m : Lent} → Held s m → Parted s (m .parts)
+parted-of h =
+    record {
+      taxa-big = λ l. h .taxa-big (λ e. omega (arith, l, e));
+      taxa-few = h .taxa-few;
+      for-parts = h .for-parts;
     }
 
 -- ---- the step
-module _ (job : List ℕ) (s : State) (table parts out : List ℕ) where
-  step-13 : longest < length job → stepped job s table parts (length out) ≡ stop 13 0
-  step-13 h = ap (λ (b : Bool). pick b (stop 13 0) (after (s .at) (stateSaid s (length table) (length parts)) (λ u. fitting (s .at) (length parts) (length out) (field job (knownOf s table parts))))) (lt-ltb longest (length job) h)
+module _ (job : List ℕ) (s : State) (m : Lent) where
+  abbrev rest : Said (Unit {0}) → Outcome
+  rest x = after (s .at) x (λ u. fitting (s .at) m (field job (knownOf s m)))
 
-  pub gives-13 : longest < length job → Gives (stepped job s table parts (length out)) (Stepped.Refused Refusal.Long 0) table table parts parts out out
-  gives-13 h = gives-stop table parts out (stepped job s table parts (length out)) Refusal.Long 0 (step-13 h)
+  abbrev whole : Bool → Outcome
+  whole b = pick b (stop 13 0) (rest (stateSaid s m))
+
+  pub step-13 : longest < length job → stepped job s m ≡ stop 13 0
+  step-13 h = ap whole (lt-ltb longest (length job) h)
 
   module _ (l : length job ≤ longest) where
-    past-13 : stepped job s table parts (length out) ≡ after (s .at) (stateSaid s (length table) (length parts)) (λ u. fitting (s .at) (length parts) (length out) (field job (knownOf s table parts)))
-    past-13 = ap (λ (b : Bool). pick b (stop 13 0) (after (s .at) (stateSaid s (length table) (length parts)) (λ u. fitting (s .at) (length parts) (length out) (field job (knownOf s table parts))))) (le-ltb longest (length job) l)
+    past-13 : stepped job s m ≡ rest (stateSaid s m)
+    past-13 = ap whole (le-ltb longest (length job) l)
 
-    step-refused : (k : ℕ) → stateSaid s (length table) (length parts) ≡ refuses k → stepped job s table parts (length out) ≡ stop k (s .at)
-    step-refused k h = past-13 ∙ ap (λ (x : Said (Unit {0})). after (s .at) x (λ u. fitting (s .at) (length parts) (length out) (field job (knownOf s table parts)))) h
+    pub step-refused : (k : ℕ) → stateSaid s m ≡ refuses k → stepped job s m ≡ stop k (s .at)
+    step-refused k h = past-13 ∙ ap rest h
 
-    pub gives-refused : (r : Refusal) → stateSaid s (length table) (length parts) ≡ refuses (numberOf r) → Gives (stepped job s table parts (length out)) (Stepped.Refused r (s .at)) table table parts parts out out
-    gives-refused r h = gives-stop table parts out (stepped job s table parts (length out)) r (s .at) (step-refused (numberOf r) h)
-
-    step-next : stateSaid s (length table) (length parts) ≡ gives (tt {0}) → stepped job s table parts (length out) ≡ fitting (s .at) (length parts) (length out) (field job (knownOf s table parts))
-    step-next h = past-13 ∙ ap (λ (x : Said (Unit {0})). after (s .at) x (λ u. fitting (s .at) (length parts) (length out) (field job (knownOf s table parts)))) h
-
-    pub gives-next : {r : Stepped} {table′ parts′ out′ : List ℕ} → stateSaid s (length table) (length parts) ≡ gives (tt {0})
-        → Gives (fitting (s .at) (length parts) (length out) (field job (knownOf s table parts))) r table table′ parts parts′ out out′ → Gives (stepped job s table parts (length out)) r table table′ parts parts′ out out′
-    gives-next h g =
-        let e = sym (step-next h) in
-        record {
-          says = g .says ∙ ap toldOf e;
-          table-then = g .table-then ∙ ap (λ (x : Outcome). tableThen x table) e;
-          parts-then = g .parts-then ∙ ap (λ (x : Outcome). partsThen x parts) e;
-          out-then = g .out-then ∙ ap (λ (x : Outcome). outThen x out) e;
-        }
+    pub step-next : stateSaid s m ≡ gives (tt {0}) → fitting (s .at) m (field job (knownOf s m)) ≡ stepped job s m
+    step-next h = sym (past-13 ∙ ap rest h)
 
 -- ---- one answer and one state of the lent memory
 stepped-one : (a b : Stepped) → steppedSays a ≡ steppedSays b → a ≡ b
@@ -131,6 +177,5 @@ stepped-one (Stepped.Refused r p) (Stepped.Refused q w) h =
     let f : p ≡ w = cc in
     ap₂ Stepped.Refused (number-one r q e) f
 
-pub gives-one : {o : Outcome} {a b : Stepped} {table t u parts p q out x y : List ℕ} → Gives o a table t parts p out x → Gives o b table u parts q out y → (a ≡ b) × (t ≡ u) × (p ≡ q) × (x ≡ y)
-gives-one {o} {a} {b} g h =
-    (stepped-one a b (g .says ∙ sym (h .says)), g .table-then ∙ sym (h .table-then), g .parts-then ∙ sym (h .parts-then), g .out-then ∙ sym (h .out-then))
+pub gives-one : {o : Outcome} {a b : Stepped} {m p q : Lent} → Gives o a m p → Gives o b m q → (a ≡ b) × (p ≡ q)
+gives-one {o} {a} {b} g h = (stepped-one a b (g .says ∙ sym (h .says)), g .memory ∙ sym (h .memory))

@@ -14,7 +14,8 @@ use Rattle.taxa.specs.Sets.{pick, inSome}
 use Rattle.taxa.proofs.Bools.{and-left, and-right, or-cases}
 use Rattle.tree.specs.Tree.{rows}
 use Rattle.tree.specs.Refusals.{Check, _else_, judged, countChecks, tableChecks, treeChecks, partitionChecks, allSeen, partitionsChecks}
-use Rattle.tree.proofs.RefusalLaws.{Pass, pass-after}
+use Rattle.tree.specs.Refusals.{Pass}
+use Rattle.tree.proofs.RefusalLaws.{pass-after}
 use Rattle.tree.proofs.Seen.{seen-in}
 use Rattle.moves.specs.Moves.{Move, moveChecks}
 use Rattle.fields.specs.Fields.{tagAt, statedAt, contentAt, numberIn, moveIn, allowed, headed, complete, lengthChecks}

@@ -86,17 +86,19 @@ withMove k m =
     record { at = k .at + 7; taxa = k .taxa; table = moved (k .taxa) (k .table) m; parts = k .parts; moves = k .moves + 1 }
 
 -- The step over a field of each tag; keptStep is that over a table of the
--- right length.
+-- right length, putStep that over the table of a tree.
 abbrev pub taxaStep : List ℕ → ℕ → Outcome
 taxaStep job at = after at (taxaField job at) (λ n. next (withTaxa at n) [])
 
+abbrev pub putStep : ℕ → ℕ → List ℕ → Outcome
+putStep at n t = next (withTable at n t) []
+
 abbrev pub keptStep : ℕ → ℕ → List ℕ → Outcome
-keptStep at n t =
-    after at (judged (tableChecks n t) t) (λ u. next (withTable at n u) [])
+keptStep at n t = after at (judged (tableChecks n t) t) (putStep at n)
 
 abbrev pub tableStep : List ℕ → ℕ → ℕ → Outcome
 tableStep job at n =
-    after at (tableField job at n) (λ t. next (withTable at n t) [])
+    after at (tableField job at n) (putStep at n)
 
 abbrev pub partitionStep : List ℕ → Known → Outcome
 partitionStep job k =

@@ -6,7 +6,7 @@ use lib.ListN.{length}
 use Rattle.taxa.specs.Most.{most, mostPartitions}
 use Rattle.tree.specs.Tree.{rows}
 use Rattle.job.specs.Job.{Known, linesAfter}
-use Rattle.job.specs.Steps.{stepped, tableThen, partsThen}
+use Rattle.job.specs.Steps.{Lent, stepped, lentThen}
 use Rattle.job.specs.declared.State.{State}
 
 -- The state that a step answers with.
@@ -17,13 +17,12 @@ stateOf k =
 abbrev pub first : State
 first = record { at = 0; taxa = 0; parts = 0; moves = 0 }
 
--- What f steps write, from a state, a table and partitions on, each with so
--- much room for lines.
-unfoldable pub run : ℕ → List ℕ → State → List ℕ → List ℕ → ℕ → List ℕ
-run zero job s table parts room = []
-run (suc f) job s table parts room =
-    let o = stepped job s table parts room in
-    linesAfter (s .moves) o (λ k. run f job (stateOf k) (tableThen o table) (partsThen o parts) room)
+-- What f steps write, from a state and the lent memory on.
+unfoldable pub run : ℕ → List ℕ → State → Lent → List ℕ
+run zero job s m = []
+run (suc f) job s m =
+    let o = stepped job s m in
+    linesAfter (s .moves) o (λ k. run f job (stateOf k) (lentThen o m))
 
 -- The most bytes of one move's lines in a job.
 abbrev pub enough : ℕ
@@ -31,7 +30,7 @@ enough = 8192
 
 -- Memory with room for any job: for the table, for the partitions and for one
 -- move's lines.
-pub record Roomy (table parts : List ℕ) (room : ℕ) : Type 0 where
-  pub for-table : 2 * rows most ≤ length table
-  pub for-parts : mostPartitions ≤ length parts
-  pub for-lines : enough ≤ room
+pub record Roomy (m : Lent) : Type 0 where
+  pub for-table : 2 * rows most ≤ length (m .table)
+  pub for-parts : mostPartitions ≤ length (m .parts)
+  pub for-lines : enough ≤ length (m .out)

@@ -8,7 +8,10 @@ use lib.ListN.{length}
 use Rattle.taxa.specs.Most.{most, mostPartitions}
 use Rattle.tree.specs.Refusals.{each, allSeen, Accepted}
 use Rattle.text.specs.Lines.{endLine, refusedLine}
-use Rattle.job.specs.Job.{Known, nothing}
+use Rattle.job.specs.Job.{Known, nothing, longest}
+use Rattle.job.specs.Steps.{Lent, knownOf}
+use Rattle.job.specs.Runs.{stateOf, Roomy}
+use Rattle.job.specs.declared.State.{State}
 
 -- Before n, between n and the table, and after the table.
 pub data Stage (k : Known) : Type 0 where
@@ -26,6 +29,14 @@ pub record Sound (job : List ℕ) (k : Known) : Type 0 where
   pub few-parts : length (k .parts) ≤ mostPartitions
   pub seen : (k .moves ≡ 0 → ⊥) → allSeen (k .taxa) (k .parts) ≡ true
   pub stage : Stage k
+
+-- A state and memory that the steps over a job come to: the job is too long,
+-- or the state and the memory hold something sound; and there is room for any
+-- job.
+pub data Going (job : List ℕ) (s : State) (m : Lent) : Type 0 where
+  too-long : longest < length job → Roomy m → Going job s m
+  under-way : (k : Known) → length job ≤ longest → Sound job k → s ≡ stateOf k
+      → knownOf s m ≡ k → Roomy m → Going job s m
 
 -- A listing that ends with a closing line.
 pub data Closes (l : List ℕ) : Type 0 where

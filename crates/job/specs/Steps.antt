@@ -1,69 +1,85 @@
 -- A step over one field from the state the last step gave: what it promises,
 -- for every state and every lent memory.
-use Prim.Native.Nat.{ℕ, _*_, _≤_}
+use Prim.Native.Nat.{ℕ, _*_, _≤_, _<_}
 use mathlib.Core.Path.{_≡_}
-use mathlib.Core.Bool.{_&&_, _||_}
-use mathlib.Core.List.{List, [], _∷_, _++_}
+use mathlib.Core.Bool.{Bool, _&&_, _||_}
+use mathlib.Core.List.{List, [], _∷_}
 use lib.Dec.{eqb, ltb, leb}
-use lib.ListN.{length, take, drop}
+use lib.ListN.{length, take}
 use Rattle.taxa.specs.Most.{most}
 use Rattle.taxa.specs.Sets.{pick}
 use Rattle.tree.specs.Tree.{rows}
 use Rattle.tree.specs.Refusals.{Check, _else_, Said, judged}
 use Rattle.table.specs.Says.{numberOf}
+use Rattle.text.specs.Lines.{putFirst}
 use Rattle.job.specs.Job.{Known, Outcome, next, over, stop, after, field}
 use Rattle.job.specs.Job.{longest}
 use Rattle.job.specs.declared.State.{State}
 use Rattle.job.specs.declared.Stepped.{Stepped}
 use Rattle.job.specs.declared.Stepped.the-variants.{Next, Ended, Refused}
 
--- What a state says with the table and the partitions that the lent memory
--- holds; the memory holds no table before the table's field, at 4, is read.
-abbrev pub knownOf : State → List ℕ → List ℕ → Known
-knownOf s table parts =
+-- The memory that is lent to a step: for the table, for the partitions and for
+-- a move's lines.
+pub record Lent : Type 0 where
+  pub table : List ℕ
+  pub parts : List ℕ
+  pub out : List ℕ
+
+abbrev pub lending : List ℕ → List ℕ → List ℕ → Lent
+lending table parts out = record { table = table; parts = parts; out = out }
+
+-- The table that a state has: none before the table's field, at 4, is read.
+abbrev pub heldTable : State → List ℕ → List ℕ
+heldTable s table = pick (leb (s .at) 4) [] (take (2 * rows (s .taxa)) table)
+
+-- What a state says, with the table and the partitions in the lent memory.
+abbrev pub knownOf : State → Lent → Known
+knownOf s m =
     record {
       at =
           s .at;
       taxa = s .taxa;
-      table = pick (leb (s .at) 4) [] (take (2 * rows (s .taxa)) table);
-      parts = take (s .parts) parts;
+      table = heldTable s (m .table);
+      parts = take (s .parts) (m .parts);
       moves = s .moves;
     }
 
--- A state that no job has: its n is not right, the lent memory is too short
--- for what it holds, or no job has its offset or its number of moves.
-abbrev pub stateChecks : State → ℕ → ℕ → List Check
-stateChecks s table parts =
+-- The memory has what the state holds: its table, once that was read, and its
+-- partitions.
+abbrev pub holds : State → Lent → Bool
+holds s m =
+    (leb (s .at) 4 || leb (2 * rows (s .taxa)) (length (m .table))) && leb (s .parts) (length (m .parts))
+
+-- What no state of a job has: an n that is not right; memory too short for
+-- what the state holds; an offset within the first field, or more moves than
+-- bytes.
+abbrev pub stateChecks : State → Lent → List Check
+stateChecks s m =
     (((eqb (s .at) 0 || leb 4 (s .taxa)) && leb (s .taxa) most) else 1)
-    ∷ ((leb (2 * rows (s .taxa)) table && leb (s .parts) parts) else 11)
+    ∷ (holds s m else 11)
     ∷ (((eqb (s .at) 0 || leb 4 (s .at)) && leb (s .moves) longest) else 12)
     ∷ []
 
-abbrev pub stateSaid : State → ℕ → ℕ → Said (Unit {0})
-stateSaid s table parts = judged (stateChecks s table parts) tt
+abbrev pub stateSaid : State → Lent → Said (Unit {0})
+stateSaid s m = judged (stateChecks s m) tt
 
--- A state that passes these checks.
-pub record Held (s : State) (table parts : List ℕ) : Type 0 where
-  pub taxa-big : (s .at ≡ 0 → ⊥) → 4 ≤ s .taxa
-  pub taxa-few : s .taxa ≤ most
-  pub for-table : 2 * rows (s .taxa) ≤ length table
-  pub for-parts : s .parts ≤ length parts
-  pub offset : (s .at ≡ 0 → ⊥) → 4 ≤ s .at
-  pub few-moves : s .moves ≤ longest
-
--- 11: what a field gives does not fit the memory lent for partitions and
+-- What a field gives fits the lent memory: its table, its partitions and its
 -- lines.
-abbrev pub fitting : ℕ → ℕ → ℕ → Outcome → Outcome
-fitting at places room (next k ls) =
-    pick (leb (length (k .parts)) places && leb (length ls) room) (next k ls) (stop 11 at)
-fitting at places room over = over
-fitting at places room (stop r p) = stop r p
+abbrev pub hasRoom : Lent → Known → List ℕ → Bool
+hasRoom m k ls =
+    leb (length (k .table)) (length (m .table)) && leb (length (k .parts)) (length (m .parts)) && leb (length ls) (length (m .out))
+
+-- 11 is judged last: what a field gives does not fit the lent memory.
+abbrev pub fitting : ℕ → Lent → Outcome → Outcome
+fitting at m (next k ls) = pick (hasRoom m k ls) (next k ls) (stop 11 at)
+fitting at m over = over
+fitting at m (stop r p) = stop r p
 
 -- The outcome of a step. 13 is checked first, with place 0.
-abbrev pub stepped : List ℕ → State → List ℕ → List ℕ → ℕ → Outcome
-stepped job s table parts room =
+abbrev pub stepped : List ℕ → State → Lent → Outcome
+stepped job s m =
     pick (ltb longest (length job)) (stop 13 0)
-    (after (s .at) (stateSaid s (length table) (length parts)) (λ u. fitting (s .at) (length parts) room (field job (knownOf s table parts))))
+    (after (s .at) (stateSaid s m) (λ u. fitting (s .at) m (field job (knownOf s m))))
 
 -- What is told of an outcome: the numbers of the next state and how many bytes
 -- of lines; the end; or a refusal's number and place.
@@ -85,24 +101,34 @@ steppedSays (Refused r p) = stopped (numberOf r) p
 
 -- The lent memory afterwards: the table, the partitions and the lines in place
 -- of the first bytes and numbers, or all as it was.
-abbrev pub tableThen : Outcome → List ℕ → List ℕ
-tableThen (next k ls) table = k .table ++ drop (length (k .table)) table
-tableThen over table = table
-tableThen (stop r p) table = table
-
-abbrev pub partsThen : Outcome → List ℕ → List ℕ
-partsThen (next k ls) parts = k .parts ++ drop (length (k .parts)) parts
-partsThen over parts = parts
-partsThen (stop r p) parts = parts
-
-abbrev pub outThen : Outcome → List ℕ → List ℕ
-outThen (next k ls) out = ls ++ drop (length ls) out
-outThen over out = out
-outThen (stop r p) out = out
+abbrev pub lentThen : Outcome → Lent → Lent
+lentThen (next k ls) m =
+    lending (putFirst (k .table) (m .table)) (putFirst (k .parts) (m .parts)) (putFirst ls (m .out))
+lentThen over m = m
+lentThen (stop r p) m = m
 
 -- An answer and the lent memory after it are those of an outcome.
-pub record Gives (o : Outcome) (r : Stepped) (table table′ parts parts′ out out′ : List ℕ) : Type 0 where
+pub record Gives (o : Outcome) (r : Stepped) (m m′ : Lent) : Type 0 where
   pub says : steppedSays r ≡ toldOf o
-  pub table-then : table′ ≡ tableThen o table
-  pub parts-then : parts′ ≡ partsThen o parts
-  pub out-then : out′ ≡ outThen o out
+  pub memory : m′ ≡ lentThen o m
+
+-- The promise of a step.
+abbrev pub Steps : List ℕ → State → Lent → Stepped → Lent → Type 0
+Steps job s m r m′ = Gives (stepped job s m) r m m′
+
+-- ---- between the functions
+
+-- What the test of 16 asks of a state and the lent partitions.
+pub record Parted (s : State) (parts : List ℕ) : Type 0 where
+  pub taxa-big : 4 < s .at → 4 ≤ s .taxa
+  pub taxa-few : s .taxa ≤ most
+  pub for-parts : s .parts ≤ length parts
+
+-- A state that passes these checks.
+pub record Held (s : State) (m : Lent) : Type 0 where
+  pub taxa-big : (s .at ≡ 0 → ⊥) → 4 ≤ s .taxa
+  pub taxa-few : s .taxa ≤ most
+  pub for-table : 4 < s .at → 2 * rows (s .taxa) ≤ length (m .table)
+  pub for-parts : s .parts ≤ length (m .parts)
+  pub offset : (s .at ≡ 0 → ⊥) → 4 ≤ s .at
+  pub few-moves : s .moves ≤ longest

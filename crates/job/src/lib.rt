@@ -2,16 +2,19 @@
 ghost use Prim.Native.Nat.{_+_, _*_, _<_, _≤_};
 ghost use mathlib.Core.Path.{_≡_};
 ghost use mathlib.Core.Bool.{true, _||_};
-ghost use lib.Dec.{eqb, leb};
 ghost use mathlib.Core.List.{[]};
+ghost use lib.Dec.{eqb, leb};
 ghost use lib.ListN.{length, take, drop};
 ghost use Rattle.taxa.specs.Most.{most};
 ghost use Rattle.tree.specs.Tree.{rows};
 ghost use Rattle.fits.specs.Bytes.{moveOf, fittedSays};
 ghost use Rattle.fields.specs.Fields as fields_spec;
 ghost use Rattle.fields.specs.Fields.{tagAt, moveIn};
-ghost use Rattle.job.specs.Job.{taxaStep, tableStep, keptStep, partitionStep, moveStep, fieldOf, seenSoFar, endStep, field, longest};
-ghost use Rattle.job.specs.Steps.{knownOf, fitting, stepped, steppedSays, stopped, toldOf, tableThen, partsThen, stateSaid, Gives, Held};
+ghost use Rattle.job.specs.Job.{taxaStep, tableStep, keptStep, putStep, partitionStep, moveStep};
+ghost use Rattle.job.specs.Job.{fieldOf, seenSoFar, endStep, field, longest};
+ghost use Rattle.job.specs.Runs.{first};
+ghost use Rattle.job.specs.Steps.{lending, knownOf, holds, stateSaid, fitting};
+ghost use Rattle.job.specs.Steps.{steppedSays, stopped, toldOf, Gives, Steps, Parted, Held};
 use fits::Fitted;
 use fits::Move;
 use listing::Lines;
@@ -20,6 +23,14 @@ use table::Refusal;
 
 // The most bytes in a job.
 const LONGEST: usize = 65535;
+
+// Memory with room for any job: bytes for the table, numbers for the
+// partitions, bytes for one move's lines. That they are enough is the law
+// room-enough in proofs/GoingLaws.antt, and that no job is then refused for
+// room is going-field there.
+pub const TABLE: usize = 250;
+pub const PARTITIONS: usize = 64;
+pub const LINES: usize = 8192;
 
 // How far a job was read: the offset of the next field, the number of taxa,
 // how many partitions and how many moves were read.
@@ -41,7 +52,7 @@ pub enum Stepped {
 
 // The state before the first field.
 pub fn start() -> State
-    ensures { λ s. ⌜ (s .at ≡ 0) × (s .taxa ≡ 0) × (s .parts ≡ 0) × (s .moves ≡ 0) ⌝ }
+    ensures { λ s. ⌜ s ≡ first ⌝ }
 {
     State {
         at: 0,
@@ -86,34 +97,47 @@ fn read_taxa(job: &[u8], at: usize) -> Stepped
     }
 }
 
+// Puts the table t of a tree, read at an offset, into the lent memory; 11
+// where it does not fit.
+fn put_table(at: usize, n: usize, t: &[u8], table: &mut [u8]) -> Stepped
+    requires { ⌜ (at ≤ longest) × (length (now t) ≤ longest) ⌝ }
+    ensures { λ r. ⌜ Gives (fitting at (lending (now (table .entry)) [] []) (putStep at n (now (t .entry)))) r (lending (now (table .entry)) [] []) (lending (now (table .exit)) [] []) ⌝ }
+{
+    if table.len() < t.len() {
+        return Stepped::Refused {
+            why: Refusal::Room,
+            place: at,
+        };
+    }
+    let k = bytes::copy(t, table);
+    Stepped::Next {
+        state: State {
+            at: at + 3 + k,
+            taxa: n,
+            parts: 0,
+            moves: 0,
+        },
+        wrote: 0,
+    }
+}
+
 // Keeps the table t of the field at an offset where it is a tree: refusals 3
-// to 5.
+// to 5, then 11.
 fn keep_table(at: usize, n: usize, t: &[u8], table: &mut [u8]) -> Stepped
-    requires { ⌜ (at ≤ longest) × (4 ≤ n) × (n ≤ most) × (length (now t) ≡ 2 * rows n) × (2 * rows n ≤ length (now table)) ⌝ }
-    ensures { λ r. ⌜ (steppedSays r ≡ toldOf (keptStep at n (now (t .entry)))) × (now (table .exit) ≡ tableThen (keptStep at n (now (t .entry))) (now (table .entry))) ⌝ }
+    requires { ⌜ (at ≤ longest) × (4 ≤ n) × (n ≤ most) × (length (now t) ≡ 2 * rows n) ⌝ }
+    ensures { λ r. ⌜ Gives (fitting at (lending (now (table .entry)) [] []) (keptStep at n (now (t .entry)))) r (lending (now (table .entry)) [] []) (lending (now (table .exit)) [] []) ⌝ }
 {
     let answer = sides::check_tree(n, t);
     match answer {
         Checked::Refused(r) => Stepped::Refused { why: r, place: at },
-        Checked::Tree => {
-            let k = bytes::copy(t, table);
-            Stepped::Next {
-                state: State {
-                    at: at + 3 + k,
-                    taxa: n,
-                    parts: 0,
-                    moves: 0,
-                },
-                wrote: 0,
-            }
-        }
+        Checked::Tree => put_table(at, n, t, table),
     }
 }
 
 // Tag 2: the table.
 fn read_table(job: &[u8], at: usize, n: usize, table: &mut [u8]) -> Stepped
-    requires { ⌜ (at < length (now job)) × (length (now job) ≤ longest) × (4 ≤ n) × (n ≤ most) × (2 * rows n ≤ length (now table)) ⌝ }
-    ensures { λ r. ⌜ (steppedSays r ≡ toldOf (tableStep (now (job .entry)) at n)) × (now (table .exit) ≡ tableThen (tableStep (now (job .entry)) at n) (now (table .entry))) ⌝ }
+    requires { ⌜ (at < length (now job)) × (length (now job) ≤ longest) × (4 ≤ n) × (n ≤ most) ⌝ }
+    ensures { λ r. ⌜ Gives (fitting at (lending (now (table .entry)) [] []) (tableStep (now (job .entry)) at n)) r (lending (now (table .entry)) [] []) (lending (now (table .exit)) [] []) ⌝ }
 {
     let rest = job.len() - at;
     if rest < 3 {
@@ -142,7 +166,7 @@ fn read_table(job: &[u8], at: usize, n: usize, table: &mut [u8]) -> Stepped
 // Tag 3: a partition.
 fn read_partition(job: &[u8], s: State, parts: &mut [u64]) -> Stepped
     requires { ⌜ (s .at < length (now job)) × (4 ≤ s .taxa) × (s .taxa ≤ most) × (s .parts ≤ length (now parts)) ⌝ }
-    ensures { λ r. ⌜ (steppedSays r ≡ toldOf (fitting (s .at) (length (now (parts .entry))) 0 (partitionStep (now (job .entry)) (knownOf s [] (now (parts .entry)))))) × (now (parts .exit) ≡ partsThen (fitting (s .at) (length (now (parts .entry))) 0 (partitionStep (now (job .entry)) (knownOf s [] (now (parts .entry))))) (now (parts .entry))) ⌝ }
+    ensures { λ r. ⌜ Gives (fitting (s .at) (lending [] (now (parts .entry)) []) (partitionStep (now (job .entry)) (knownOf s (lending [] (now (parts .entry)) [])))) r (lending [] (now (parts .entry)) []) (lending [] (now (parts .exit)) []) ⌝ }
 {
     let at = s.at;
     let n = s.taxa;
@@ -196,8 +220,8 @@ fn move_in(job: &[u8], from: usize) -> Move
 
 // Tag 4: a move, on the tree the last left, and its lines.
 fn read_move(job: &[u8], s: State, table: &mut [u8], parts: &[u64], out: &mut [u8]) -> Stepped
-    requires { ⌜ (s .at < length (now job)) × (4 < s .at) × (Held s (now table) (now parts)) ⌝ }
-    ensures { λ r. ⌜ Gives (fitting (s .at) (length (now (parts .entry))) (length (now (out .entry))) (moveStep (now (job .entry)) (knownOf s (now (table .entry)) (now (parts .entry))))) r (now (table .entry)) (now (table .exit)) (now (parts .entry)) (now (parts .entry)) (now (out .entry)) (now (out .exit)) ⌝ }
+    requires { ⌜ (s .at < length (now job)) × (4 < s .at) × (Held s (lending (now table) (now parts) (now out))) ⌝ }
+    ensures { λ r. ⌜ Gives (fitting (s .at) (lending (now (table .entry)) (now (parts .entry)) (now (out .entry))) (moveStep (now (job .entry)) (knownOf s (lending (now (table .entry)) (now (parts .entry)) (now (out .entry)))))) r (lending (now (table .entry)) (now (parts .entry)) (now (out .entry))) (lending (now (table .exit)) (now (parts .entry)) (now (out .exit))) ⌝ }
 {
     let at = s.at;
     let n = s.taxa;
@@ -227,8 +251,8 @@ fn read_move(job: &[u8], s: State, table: &mut [u8], parts: &[u64], out: &mut [u
 
 // The field with an allowed tag.
 fn read_field(job: &[u8], s: State, table: &mut [u8], parts: &mut [u64], out: &mut [u8]) -> Stepped
-    requires { ⌜ (s .at < length (now job)) × (length (now job) ≤ longest) × (Held s (now table) (now parts)) × (fields_spec.allowed (s .at) (s .parts) (s .moves) (tagAt (now job) (s .at)) ≡ true) ⌝ }
-    ensures { λ r. ⌜ Gives (fitting (s .at) (length (now (parts .entry))) (length (now (out .entry))) (fieldOf (now (job .entry)) (knownOf s (now (table .entry)) (now (parts .entry))) (tagAt (now (job .entry)) (s .at)))) r (now (table .entry)) (now (table .exit)) (now (parts .entry)) (now (parts .exit)) (now (out .entry)) (now (out .exit)) ⌝ }
+    requires { ⌜ (s .at < length (now job)) × (length (now job) ≤ longest) × (Held s (lending (now table) (now parts) (now out))) × (fields_spec.allowed (s .at) (s .parts) (s .moves) (tagAt (now job) (s .at)) ≡ true) ⌝ }
+    ensures { λ r. ⌜ Gives (fitting (s .at) (lending (now (table .entry)) (now (parts .entry)) (now (out .entry))) (fieldOf (now (job .entry)) (knownOf s (lending (now (table .entry)) (now (parts .entry)) (now (out .entry)))) (tagAt (now (job .entry)) (s .at)))) r (lending (now (table .entry)) (now (parts .entry)) (now (out .entry))) (lending (now (table .exit)) (now (parts .exit)) (now (out .exit))) ⌝ }
 {
     let at = s.at;
     let tag = job[at];
@@ -247,8 +271,8 @@ fn read_field(job: &[u8], s: State, table: &mut [u8], parts: &mut [u64], out: &m
 // Whether 16 is not given: partitions are not what was read last, or each
 // taxon is in one.
 fn seen_so_far(s: State, parts: &[u64]) -> bool
-    requires { ⌜ (4 < s .at → 4 ≤ s .taxa) × (s .taxa ≤ most) × (s .parts ≤ length (now parts)) ⌝ }
-    ensures { λ r. ⌜ r ≡ seenSoFar (knownOf s [] (now (parts .entry))) ⌝ }
+    requires { ⌜ Parted s (now parts) ⌝ }
+    ensures { λ r. ⌜ r ≡ seenSoFar (knownOf s (lending [] (now (parts .entry)) [])) ⌝ }
 {
     if s.at <= 4 {
         return true;
@@ -274,8 +298,8 @@ fn unseen(place: usize) -> Stepped
 
 // The end of a job of so many bytes.
 fn read_end(long: usize, s: State, parts: &[u64]) -> Stepped
-    requires { ⌜ (4 < s .at → 4 ≤ s .taxa) × (s .taxa ≤ most) × (s .parts ≤ length (now parts)) ⌝ }
-    ensures { λ r. ⌜ steppedSays r ≡ toldOf (endStep long (knownOf s [] (now (parts .entry)))) ⌝ }
+    requires { ⌜ Parted s (now parts) ⌝ }
+    ensures { λ r. ⌜ steppedSays r ≡ toldOf (endStep long (knownOf s (lending [] (now (parts .entry)) []))) ⌝ }
 {
     if s.parts == 0 {
         return Stepped::Refused {
@@ -291,8 +315,8 @@ fn read_end(long: usize, s: State, parts: &[u64]) -> Stepped
 
 // Whether 16 is not given at a field with this tag.
 fn seen_before(tag: u8, s: State, parts: &[u64]) -> bool
-    requires { ⌜ (4 < s .at → 4 ≤ s .taxa) × (s .taxa ≤ most) × (s .parts ≤ length (now parts)) ⌝ }
-    ensures { λ r. ⌜ r ≡ (eqb tag 3 || seenSoFar (knownOf s [] (now (parts .entry)))) ⌝ }
+    requires { ⌜ Parted s (now parts) ⌝ }
+    ensures { λ r. ⌜ r ≡ (eqb tag 3 || seenSoFar (knownOf s (lending [] (now (parts .entry)) []))) ⌝ }
 {
     if tag != 3 {
         return seen_so_far(s, parts);
@@ -303,8 +327,8 @@ fn seen_before(tag: u8, s: State, parts: &[u64]) -> bool
 // The next field of a state that a job can have, or the job's end: whether 16
 // is given before it, and whether its tag is allowed.
 fn read_next(job: &[u8], s: State, table: &mut [u8], parts: &mut [u64], out: &mut [u8]) -> Stepped
-    requires { ⌜ (length (now job) ≤ longest) × (Held s (now table) (now parts)) ⌝ }
-    ensures { λ r. ⌜ Gives (fitting (s .at) (length (now (parts .entry))) (length (now (out .entry))) (field (now (job .entry)) (knownOf s (now (table .entry)) (now (parts .entry))))) r (now (table .entry)) (now (table .exit)) (now (parts .entry)) (now (parts .exit)) (now (out .entry)) (now (out .exit)) ⌝ }
+    requires { ⌜ (length (now job) ≤ longest) × (Held s (lending (now table) (now parts) (now out))) ⌝ }
+    ensures { λ r. ⌜ Gives (fitting (s .at) (lending (now (table .entry)) (now (parts .entry)) (now (out .entry))) (field (now (job .entry)) (knownOf s (lending (now (table .entry)) (now (parts .entry)) (now (out .entry)))))) r (lending (now (table .entry)) (now (parts .entry)) (now (out .entry))) (lending (now (table .exit)) (now (parts .exit)) (now (out .exit))) ⌝ }
 {
     let at = s.at;
     if job.len() <= at {
@@ -344,9 +368,25 @@ fn table_bytes(n: usize) -> usize
     2 * (2 * n - 3)
 }
 
-// Whether a state is one that a job can have with this memory; else why not.
-fn state_right(s: State, table: usize, parts: usize) -> Fitted
-    ensures { λ r. ⌜ fittedSays r ≡ stateSaid s table parts ⌝ }
+// Whether the lent memory has what a state holds: its table, once that was
+// read, and its partitions.
+fn memory_right(s: State, table: &[u8], parts: &[u64]) -> bool
+    requires { ⌜ s .taxa ≤ most ⌝ }
+    ensures { λ r. ⌜ r ≡ holds s (lending (now (table .entry)) (now (parts .entry)) []) ⌝ }
+{
+    if parts.len() < s.parts {
+        return false;
+    }
+    if s.at <= 4 {
+        return true;
+    }
+    table_bytes(s.taxa) <= table.len()
+}
+
+// Whether nothing about a state and the lent memory is such that no job has
+// it; else why.
+fn state_right(s: State, table: &[u8], parts: &[u64]) -> Fitted
+    ensures { λ r. ⌜ fittedSays r ≡ stateSaid s (lending (now (table .entry)) (now (parts .entry)) []) ⌝ }
 {
     let at = s.at;
     let n = s.taxa;
@@ -356,10 +396,7 @@ fn state_right(s: State, table: usize, parts: usize) -> Fitted
     if !four_after_start(at, n) {
         return Fitted::Refused(Refusal::Count);
     }
-    if table < table_bytes(n) {
-        return Fitted::Refused(Refusal::Room);
-    }
-    if parts < s.parts {
+    if !memory_right(s, table, parts) {
         return Fitted::Refused(Refusal::Room);
     }
     if !four_after_start(at, at) {
@@ -375,7 +412,7 @@ fn state_right(s: State, table: usize, parts: usize) -> Fitted
 // table and the partitions read so far are in the lent memory; a move's lines
 // are written at the start of out.
 pub fn step(job: &[u8], s: State, table: &mut [u8], parts: &mut [u64], out: &mut [u8]) -> Stepped
-    ensures { λ r. ⌜ Gives (stepped (now (job .entry)) s (now (table .entry)) (now (parts .entry)) (length (now (out .entry)))) r (now (table .entry)) (now (table .exit)) (now (parts .entry)) (now (parts .exit)) (now (out .entry)) (now (out .exit)) ⌝ }
+    ensures { λ r. ⌜ Steps (now (job .entry)) s (lending (now (table .entry)) (now (parts .entry)) (now (out .entry))) r (lending (now (table .exit)) (now (parts .exit)) (now (out .exit))) ⌝ }
 {
     if LONGEST < job.len() {
         return Stepped::Refused {
@@ -383,7 +420,7 @@ pub fn step(job: &[u8], s: State, table: &mut [u8], parts: &mut [u64], out: &mut
             place: 0,
         };
     }
-    let fit = state_right(s, table.len(), parts.len());
+    let fit = state_right(s, table, parts);
     match fit {
         Fitted::Refused(r) => Stepped::Refused {
             why: r,

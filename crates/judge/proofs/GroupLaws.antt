@@ -11,8 +11,7 @@ use borrow.Author.Tests.{eq-eqb, ne-eqb}
 use Rattle.taxa.specs.Sets.{pick}
 use Rattle.tree.specs.Tree.{lo, hi}
 use Rattle.tree.specs.Splits.{dist, distances}
-use Rattle.tree.specs.Refusals.{each, Accepted}
-use Rattle.tree.proofs.RefusalLaws.{Pass}
+use Rattle.tree.specs.Refusals.{each, Accepted, Pass}
 use Rattle.moves.specs.Moves.{Move, moved, moveChecks}
 use Rattle.moves.specs.Groups.{stayed, nniRule, sprRule, tbrRule, moveRule}
 use Rattle.moves.proofs.GroupLists.{met-append}

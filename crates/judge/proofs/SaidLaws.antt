@@ -13,7 +13,8 @@ use Rattle.taxa.proofs.Bools.{and-left, and-right}
 use Rattle.tree.specs.Splits.{dist, distances}
 use Rattle.tree.specs.Tree.{every}
 use Rattle.tree.specs.Refusals.{Check, _else_, Said, gives, refuses, judged, treeChecks, partitionChecks, allSeen, partitionsChecks, roomChecks, each, treeSaid, written, Accepted}
-use Rattle.tree.proofs.RefusalLaws.{Pass, judged-pass, judged-all, judged-next, judged-fail, refuses-more, refuses-any, accepted-pass, gives-pass}
+use Rattle.tree.specs.Refusals.{Pass}
+use Rattle.tree.proofs.RefusalLaws.{judged-pass, judged-all, judged-next, judged-fail, refuses-more, refuses-any, accepted-pass, gives-pass}
 use Rattle.table.specs.Says.{numberOf}
 use Rattle.table.proofs.Numbers.{number-one}
 use Rattle.table.specs.declared.Refusal.{Refusal}

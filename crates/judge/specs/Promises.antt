@@ -7,9 +7,8 @@ use lib.Dec.{eqb}
 use lib.ListN.{length, drop}
 use Rattle.taxa.specs.Sets.{pick, has}
 use Rattle.tree.specs.Tree.{lo, hi, far, every}
-use Rattle.tree.specs.Refusals.{_else_, Said, gives, refuses, judged, written}
+use Rattle.tree.specs.Refusals.{_else_, Said, gives, refuses, judged, written, Pass}
 use Rattle.tree.specs.Refusals.{partitionsChecks, Accepted}
-use Rattle.tree.proofs.RefusalLaws.{Pass}
 use Rattle.table.specs.Says.{numberOf}
 use Rattle.near.specs.Near.{Near}
 use Rattle.sides.specs.Filled.{Sides}

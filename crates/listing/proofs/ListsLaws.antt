@@ -10,7 +10,8 @@ use lib.ListN.{length}
 use Rattle.taxa.specs.Sets.{pick}
 use Rattle.tree.specs.Splits.{distances}
 use Rattle.tree.specs.Refusals.{Check, Said, gives, refuses, judged, treeChecks, partitionsChecks, roomChecks, treeSaid, Accepted}
-use Rattle.tree.proofs.RefusalLaws.{Pass, judged-pass, judged-next, judged-fail, refuses-more, accepted-pass}
+use Rattle.tree.specs.Refusals.{Pass}
+use Rattle.tree.proofs.RefusalLaws.{judged-pass, judged-next, judged-fail, refuses-more, accepted-pass}
 use Rattle.table.specs.Says.{numberOf}
 use Rattle.table.proofs.Numbers.{number-one}
 use Rattle.table.specs.declared.Refusal.{Refusal}

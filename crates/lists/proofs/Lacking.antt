@@ -12,8 +12,8 @@ use lib.Seq.{drop-cons}
 use lib.Dec.{eqb}
 use borrow.Author.Tests.{eq-eqb, ne-eqb, eqb-true}
 use Rattle.taxa.proofs.Bools.{or-cases, or-right}
-use Rattle.tree.specs.Lists.{mem, lacks, firstLack}
-use Rattle.tree.proofs.Lists.{Over, Asc, lacks-nil}
+use Rattle.tree.specs.Lists.{mem, lacks, firstLack, Over, Asc}
+use Rattle.tree.proofs.Lists.{lacks-nil}
 
 -- ---- the search of x on b
 pub mem-end : (x : ℕ) (b : List ℕ) (j : ℕ) → length b ≤ j → mem x (drop j b) ≡ false

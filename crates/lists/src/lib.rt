@@ -5,7 +5,7 @@ ghost use mathlib.Core.List.{_++_};
 ghost use Prim.Native.Nat.{_<_, _≤_};
 ghost use lib.ListN.{length, take, drop};
 ghost use Rattle.tree.specs.Lists as lists_spec;
-ghost use Rattle.tree.proofs.Lists.{Asc};
+ghost use Rattle.tree.specs.Lists.{Asc};
 ghost use Rattle.lists.specs.Places.{lead, gapped};
 
 // How many numbers at the start of the first len are below x.

@@ -9,9 +9,8 @@ use lib.Bits.{bitAnd, bitOr}
 use Rattle.taxa.specs.Sets.{has, less, some}
 use Rattle.taxa.proofs.Bools.{either, and-left, and-right, not-both, not-swap}
 use Rattle.taxa.proofs.Sets.{has-or, has-less, some-zero, none-zero}
-use Rattle.tree.specs.Lists.{mem}
+use Rattle.tree.specs.Lists.{mem, Asc}
 use Rattle.tree.specs.Splits.{split, meets}
-use Rattle.tree.proofs.Lists.{Asc}
 use Rattle.tree.proofs.SplitLaws.{some-meets}
 use Rattle.moves.proofs.RowSplits.{Corners}
 use Rattle.moves.proofs.GroupLists.{any, union, has-union, any-reverse, union-reverse}

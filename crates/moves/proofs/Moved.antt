@@ -12,8 +12,7 @@ use borrow.Author.Tests.{eqb-true, eqb-false, leb-true, not-true}
 use Rattle.taxa.proofs.Bools.{and-left, and-right, or-cases}
 use Rattle.tree.specs.Tree.{lo, hi, rows, touches, Valid}
 use Rattle.tree.specs.Splits.{dist}
-use Rattle.tree.specs.Refusals.{Accepted}
-use Rattle.tree.proofs.RefusalLaws.{Pass}
+use Rattle.tree.specs.Refusals.{Accepted, Pass}
 use Rattle.moves.specs.Moves.{Move, nni, nniFits, endWith, spr, tbr, target, moved, kindRight, rowsRight, fits, anyMoves, moveChecks}
 use Rattle.moves.specs.Groups.{nniRule, sprRule, tbrRule, moveRule}
 use Rattle.moves.proofs.NniMove.{nni-valid, nni-dist}

@@ -12,7 +12,7 @@ use Rattle.taxa.proofs.Bools.{or-neither}
 use Rattle.tree.specs.Tree.{lo, hi, rows, touches, far, others, Valid}
 use Rattle.tree.specs.Lists.{mem}
 use Rattle.tree.proofs.Lists.{mem-append}
-use Rattle.tree.proofs.RefusalLaws.{Pass}
+use Rattle.tree.specs.Refusals.{Pass}
 use Rattle.moves.specs.Moves.{Move, put, endOn, nni, endWith, moveEnd, spr, stayOr, tbr, moved, moveChecks}
 use Rattle.moves.specs.Named.{endNamed, stayNamed, named}
 use Rattle.moves.proofs.Puts.{length-put, lo-other, hi-other}

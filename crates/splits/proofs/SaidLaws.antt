@@ -10,7 +10,8 @@ use lib.ListN.{length, drop}
 use borrow.Author.Tests.{le-leb, lt-leb}
 use Rattle.tree.specs.Splits.{splits, dist, missing}
 use Rattle.tree.specs.Refusals.{Said, gives, refuses, judged, countChecks, tableChecks, treeChecks, partitionChecks, roomChecks, treeSaid, Accepted, written}
-use Rattle.tree.proofs.RefusalLaws.{Pass, judged-pass, judged-next, judged-fail, refuses-more, accepted-pass}
+use Rattle.tree.specs.Refusals.{Pass}
+use Rattle.tree.proofs.RefusalLaws.{judged-pass, judged-next, judged-fail, refuses-more, accepted-pass}
 use Rattle.table.specs.Says.{numberOf}
 use Rattle.table.specs.declared.Refusal.{Refusal}
 use Rattle.table.proofs.Numbers.{number-one}

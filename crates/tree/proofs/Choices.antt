@@ -14,9 +14,9 @@ use Rattle.taxa.specs.Sets.{pick, has, less, some, Sub}
 use Rattle.taxa.proofs.Bools.{either, and-left, and-right, and-both, and-true-l, and-when, and-when′, or-cases, _⊕_, xor-cancel, xor-assoc, xor-same}
 use Rattle.taxa.proofs.Sets.{has-and, has-less, ext, some-mono}
 use Rattle.tree.specs.Tree.{rows}
-use Rattle.tree.specs.Lists.{insert, mem}
+use Rattle.tree.specs.Lists.{insert, mem, Asc}
 use Rattle.tree.specs.Splits.{side, meets, Choice, splitBy, splitsTo, splitsBy}
-use Rattle.tree.proofs.Lists.{mem-insert, Asc, asc-insert}
+use Rattle.tree.proofs.Lists.{mem-insert, asc-insert}
 
 -- s and s′ agree on y where d is false, and disagree on all of it where d is
 -- true

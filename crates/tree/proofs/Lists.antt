@@ -11,7 +11,7 @@ use lib.ListN.{length, length-append}
 use borrow.Author.Tests.{ltb-true, ltb-false, eqb-true, eqb-false, ne-eqb, eq-eqb}
 use Rattle.taxa.specs.Sets.{pick}
 use Rattle.taxa.proofs.Bools.{either, or-cases, or-left, or-right, or-assoc}
-use Rattle.tree.specs.Lists.{insert, mem, lacks, firstLack}
+use Rattle.tree.specs.Lists.{insert, mem, Over, Asc, lacks, firstLack}
 
 -- equal lists have equal heads and equal tails
 pub cons-head : (x y : ℕ) (xs ys : List ℕ) → x ∷ xs ≡ y ∷ ys → x ≡ y
@@ -40,14 +40,6 @@ mem-insert x z (y ∷ ys) = go (mem-insert x z ys) (ltb x y) (eqb x y) refl
     go ih true q e = refl
     go ih false true e = rw (eqb-true x y e) (or-again (eqb z y) (mem z ys))
     go ih false false e = rw ih (or-swap (eqb z y) (eqb z x) (mem z ys))
-
--- every member is above x
-abbrev pub Over : ℕ → List ℕ → Type 0
-Over x l = (z : ℕ) → mem z l ≡ true → x < z
-
-abbrev pub Asc : List ℕ → Type 0
-Asc [] = Unit {0}
-Asc (x ∷ xs) = Over x xs × Asc xs
 
 pub asc-insert : (x : ℕ) (l : List ℕ) → Asc l → Asc (insert x l)
 unfolding insert mem

@@ -13,13 +13,8 @@ use Rattle.taxa.specs.Most.{most}
 use Rattle.taxa.specs.Sets.{pick}
 use Rattle.taxa.proofs.Bools.{either, and-left, and-right, and-both}
 use Rattle.tree.specs.Tree.{lo, hi, rows, nodes, inOrder, rightDegree, fromZero, degree, wanted}
-use Rattle.tree.specs.Refusals.{Check, _else_, gives, refuses, judged, treeChecks, treeSaid, Accepted}
+use Rattle.tree.specs.Refusals.{Check, _else_, gives, refuses, judged, Pass, treeChecks, treeSaid, Accepted}
 use Rattle.tree.proofs.RowCounts.{every-all, all-every}
-
--- every check passes
-abbrev pub Pass : List Check → Type 0
-Pass [] = Unit {0}
-Pass ((b else k) ∷ cs) = (b ≡ true) × Pass cs
 
 -- of checks that all pass the later ones pass
 pub pass-after : (cs ds : List Check) → Pass (cs ++ ds) → Pass ds

@@ -14,9 +14,8 @@ use Rattle.taxa.specs.Sets.{pick, has, less, some, Sub}
 use Rattle.taxa.proofs.Bools.{either, and-true-l, _⊕_, xor-cancel}
 use Rattle.taxa.proofs.Sets.{has-mod, has-below, some-zero, some-false}
 use Rattle.tree.specs.Tree.{lo, rows, part}
-use Rattle.tree.specs.Lists.{mem}
+use Rattle.tree.specs.Lists.{mem, Asc}
 use Rattle.tree.specs.Splits.{side, meets, flips, splitBy, split, splits}
-use Rattle.tree.proofs.Lists.{Asc}
 use Rattle.tree.proofs.Choices.{Like, same-by, some-by, like-by, twice-by, numBy, asc-by, into, out-of}
 use Rattle.tree.proofs.SideWritten.{flips-fair, flips-wide}
 use Rattle.tree.proofs.Bridges.{Table}

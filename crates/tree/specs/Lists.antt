@@ -1,6 +1,7 @@
 -- Ascending lists of numbers, and what one lacks of another.
-use Prim.Native.Nat.{ℕ, suc}
-use mathlib.Core.Bool.{Bool, false, _||_}
+use Prim.Native.Nat.{ℕ, suc, _<_}
+use mathlib.Core.Path.{_≡_}
+use mathlib.Core.Bool.{Bool, true, false, _||_}
 use mathlib.Core.List.{List, [], _∷_}
 use lib.Dec.{eqb, ltb}
 use Rattle.taxa.specs.Sets.{pick}
@@ -9,6 +10,15 @@ use Rattle.taxa.specs.Sets.{pick}
 unfoldable pub mem : ℕ → List ℕ → Bool
 mem x [] = false
 mem x (y ∷ ys) = eqb x y || mem x ys
+
+-- every member is above x
+abbrev pub Over : ℕ → List ℕ → Type 0
+Over x l = (z : ℕ) → mem z l ≡ true → x < z
+
+-- the list ascends, so that no number stands on it twice
+abbrev pub Asc : List ℕ → Type 0
+Asc [] = Unit {0}
+Asc (x ∷ xs) = Over x xs × Asc xs
 
 -- x put in its place of an ascending list, once
 unfoldable pub insert : ℕ → List ℕ → List ℕ

@@ -1,6 +1,7 @@
 -- Refusal numbers, and the order in which the checks run. A check is a test
 -- with the number that a call is refused with where the test fails.
 use Prim.Native.Nat.{ℕ, _*_, _^_, _≤_}
+use mathlib.Core.Path.{_≡_}
 use mathlib.Core.Bool.{Bool, true, false, _&&_}
 use mathlib.Core.List.{List, [], _∷_, _++_}
 use lib.Dec.{eqb, ltb, leb}
@@ -25,6 +26,11 @@ unfoldable pub judged : {A : Type 0} → List Check → A → Said A
 judged [] a = gives a
 judged ((true else k) ∷ cs) a = judged cs a
 judged ((false else k) ∷ cs) a = refuses k
+
+-- No check fails.
+abbrev pub Pass : List Check → Type 0
+Pass [] = Unit {0}
+Pass ((b else k) ∷ cs) = (b ≡ true) × Pass cs
 
 -- A lent list after a call that writes a list: its first numbers are the
 -- answer's, and a refusal changes none.

@@ -24,7 +24,8 @@ use Rattle.reader.specs.Promises as reader
 use Rattle.reader.specs.Promises.{refusesAt, readingSays}
 use Rattle.reader.specs.declared.Reading.{Reading}
 use Rattle.job.specs.Job.{Outcome}
-use Rattle.job.specs.Steps.{ended, stopped, steppedSays, Gives}
+use Rattle.job.specs.Steps as jobs
+use Rattle.job.specs.Steps.{Lent, ended, stopped, steppedSays}
 use Rattle.job.specs.declared.State.{State}
 use Rattle.job.specs.declared.Stepped.{Stepped}
 use Rattle.tusvlane.specs.declared.Answer.{Answer}
@@ -73,26 +74,15 @@ read-answer p f g = record { heard = p .heard; by = p .by; says = stands reading
 pub placed-is : (j k p : ℕ) → j ≡ k → record { refusal = j; place = p } ≡ placedOf (refusesAt k p)
 placed-is j k p = ap (λ (i : ℕ). record { refusal = i; place = p })
 
-pub step-answer : {o : Outcome} {r q : Stepped} {a : StepAnswer} {table table′ parts parts′ out out′ : List ℕ}
-    → Gives o r table table′ parts parts′ out out′ → r ≡ q → a ≡ stepAnswerOf (steppedSays q) → Steps o a table table′ parts parts′ out out′
-step-answer p f g = record { says = stands steppedSays stepAnswerOf (p .says) f g; table-then = p .table-then; parts-then = p .parts-then; out-then = p .out-then }
+pub step-answer : {job : List ℕ} {s : State} {m m′ : Lent} {r q : Stepped} {a : StepAnswer}
+    → jobs.Steps job s m r m′ → r ≡ q → a ≡ stepAnswerOf (steppedSays q) → Steps job s m a m′
+step-answer p f g = record { says = stands steppedSays stepAnswerOf (p .says) f g; memory = p .memory }
 
--- Every number of a state is 0, and so it is the first.
-abbrev AllZero : State → Type 0
-AllZero s = (s .at ≡ 0) × (s .taxa ≡ 0) × (s .parts ≡ 0) × (s .moves ≡ 0)
-
-pub start-is : (s : State) → AllZero s → s ≡ first
-start-is s z =
-    let e₁ : s .at ≡ 0 = z .0 in
-    let e₂ : s .taxa ≡ 0 = z .1 in
-    let e₃ : s .parts ≡ 0 = z .2 in
-    let e₄ : s .moves ≡ 0 = z .3 in
-    rw (e₁, e₂, e₃, e₄)
-
--- The answer with such a state for the next is that of the end, or of a
+-- The answer with the first state for the next is that of the end, or of a
 -- refusal.
-pub ended-is : (s : State) → AllZero s → record { refusal = 0; ended = 1; place = 0; wrote = 0; next = s } ≡ stepAnswerOf ended
-ended-is s z = ap (λ (x : State). record { refusal = 0; ended = 1; place = 0; wrote = 0; next = x }) (start-is s z)
+pub ended-is : (s : State) → s ≡ first → record { refusal = 0; ended = 1; place = 0; wrote = 0; next = s } ≡ stepAnswerOf ended
+ended-is s z = ap (λ (x : State). record { refusal = 0; ended = 1; place = 0; wrote = 0; next = x }) z
 
-pub stopped-is : (j k p : ℕ) (s : State) → j ≡ k → AllZero s → record { refusal = j; ended = 0; place = p; wrote = 0; next = s } ≡ stepAnswerOf (stopped k p)
-stopped-is j k p s e z = ap₂ (λ (i : ℕ) (x : State). record { refusal = i; ended = 0; place = p; wrote = 0; next = x }) e (start-is s z)
+pub stopped-is : (j k p : ℕ) (s : State) → j ≡ k → s ≡ first
+    → record { refusal = j; ended = 0; place = p; wrote = 0; next = s } ≡ stepAnswerOf (stopped k p)
+stopped-is j k p s e z = ap₂ (λ (i : ℕ) (x : State). record { refusal = i; ended = 0; place = p; wrote = 0; next = x }) e z

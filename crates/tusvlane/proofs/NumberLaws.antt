@@ -19,8 +19,8 @@ use Rattle.splits.specs.Promises.{inducedSaid, howMany, comparedSaid}
 use Rattle.judge.specs.Promises.{done, howManySame}
 use Rattle.listing.specs.Listing.{linesOf, linesSaid, placeAfter}
 use Rattle.fields.specs.Fields.{tagAt, statedAt, contentAt, numberIn, moveIn, allowed, headed, complete, lengthChecks}
-use Rattle.job.specs.Job.{Known, Outcome, next, over, stop, after, taxaField, tableField, partitionField, moveField, withTaxa, withTable, withPartition, withMove, taxaStep, tableStep, partitionStep, moveStep, fieldOf, seenSoFar, endStep, tagStep, field, longest}
-use Rattle.job.specs.Steps.{knownOf, stateChecks, stateSaid, fitting, stepped, toldOf}
+use Rattle.job.specs.Job.{Known, Outcome, next, over, stop, after, taxaField, tableField, partitionField, moveField, withTaxa, withTable, putStep, withPartition, withMove, taxaStep, tableStep, partitionStep, moveStep, fieldOf, seenSoFar, endStep, tagStep, field, longest}
+use Rattle.job.specs.Steps.{Lent, knownOf, stateChecks, stateSaid, hasRoom, fitting, stepped, toldOf}
 use Rattle.job.specs.declared.State.{State}
 use Rattle.reader.specs.Promises as reader
 use Rattle.reader.specs.Promises.{Heard, refusesAt, Reads, of-count, of-text, of-room, of-tree, told}
@@ -62,6 +62,12 @@ zero-iff (gives a) k (answered b e z) = (λ h. tt, λ g. z)
 zero-iff (refuses j) k (answered b e z) = absurd (let w : _≡_ {A = ℕ} 0 1 = cc in omega arith)
 zero-iff (gives a) k (refused e l) = absurd (let w : _≡_ {A = ℕ} 0 1 = cc in omega arith)
 zero-iff (refuses j) k (refused e l) = (λ h. absurd (false≢true (sym (ap isRefusal h) ∙ l)), λ g. absurd g)
+
+-- Memory that a refusal leaves as it was, m, is so where the number is not 0.
+pub kept-numbered : {A M : Type 0} (s : Said A) (k : ℕ) → Numbered s k → (k ≡ 0 → ⊥) → (after : Said A → M) (m : M)
+    → ((j : ℕ) → after (refuses j) ≡ m) → after s ≡ m
+kept-numbered s k (answered a e z) d after m h = absurd (d z)
+kept-numbered s k (refused e l) d after m h = ap after e ∙ h k
 
 -- ---- the calls
 module _ (n : ℕ) (t : List ℕ) where
@@ -133,10 +139,10 @@ ranged-after : {A : Type 0} (at : ℕ) (s : Said A) (f : A → Outcome) → Rang
 ranged-after at (gives a) f v w = w a
 ranged-after at (refuses k) f v w = v
 
-ranged-fitting : (at places room : ℕ) (o : Outcome) → Ranged (stepSaid o) → Ranged (stepSaid (fitting at places room o))
-ranged-fitting at places room (next k ls) v = ranged-pick (leb (length (k .parts)) places && leb (length ls) room) (next k ls) (stop 11 at) tt refl
-ranged-fitting at places room over v = tt
-ranged-fitting at places room (stop k p) v = v
+ranged-fitting : (at : ℕ) (m : Lent) (o : Outcome) → Ranged (stepSaid o) → Ranged (stepSaid (fitting at m o))
+ranged-fitting at m (next k ls) v = ranged-pick (hasRoom m k ls) (next k ls) (stop 11 at) tt refl
+ranged-fitting at m over v = tt
+ranged-fitting at m (stop k p) v = v
 
 -- The step over a field of each tag.
 module _ (job : List ℕ) where
@@ -150,7 +156,7 @@ module _ (job : List ℕ) where
   unfolding allRanged
   ranged-table at n =
       let t : List ℕ = contentAt job at (2 * rows n) in
-      ranged-after at (tableField job at n) (λ u. next (withTable at n u) [])
+      ranged-after at (tableField job at n) (putStep at n)
       (judged-ranged ((headed job at else 12) ∷ (eqb (statedAt job at) (2 * rows n) else 2) ∷ (complete job at (2 * rows n) else 12) ∷ tableChecks n t) t refl) (λ u. tt)
 
   module _ (k : Known) where
@@ -193,20 +199,20 @@ module _ (job : List ℕ) where
         let tag : ℕ = tagAt job (k .at) in
         ranged-pick (leb (length job) (k .at)) (endStep (length job) k) (tagStep job k tag) ranged-end (ranged-step tag)
 
-ranged-stepped : (job : List ℕ) (s : State) (table parts : List ℕ) (room : ℕ) → Ranged (stepSaid (stepped job s table parts room))
+ranged-stepped : (job : List ℕ) (s : State) (m : Lent) → Ranged (stepSaid (stepped job s m))
 unfolding allRanged
-ranged-stepped job s table parts room =
+ranged-stepped job s m =
     ranged-pick (ltb longest (length job)) (stop 13 0) _ refl
-    (ranged-after (s .at) (stateSaid s (length table) (length parts)) (λ u. fitting (s .at) (length parts) room (field job (knownOf s table parts)))
-    (judged-ranged (stateChecks s (length table) (length parts)) tt refl)
-    (λ u. ranged-fitting (s .at) (length parts) room (field job (knownOf s table parts)) (ranged-field job (knownOf s table parts))))
+    (ranged-after (s .at) (stateSaid s m) (λ u. fitting (s .at) m (field job (knownOf s m)))
+    (judged-ranged (stateChecks s m) tt refl)
+    (λ u. ranged-fitting (s .at) m (field job (knownOf s m)) (ranged-field job (knownOf s m))))
 
 step-stands : (o : Outcome) → Ranged (stepSaid o) → (k : ℕ) → k ≡ stepAnswerOf (toldOf o) .refusal → Numbered (stepSaid o) k
 step-stands (next q ls) w k h = answered tt refl h
 step-stands over w k h = answered tt refl h
 step-stands (stop j p) w k h = refused (ap refuses (sym h)) (ap isRefusal h ∙ w)
 
-pub step-number : (job : List ℕ) (s : State) (table parts out : List ℕ) (r : StepAnswer) (table′ parts′ out′ : List ℕ)
-    → Steps (stepped job s table parts (length out)) r table table′ parts parts′ out out′ → Numbered (stepSaid (stepped job s table parts (length out))) (r .refusal)
-step-number job s table parts out r table′ parts′ out′ p =
-    step-stands (stepped job s table parts (length out)) (ranged-stepped job s table parts (length out)) (r .refusal) (ap (λ (a : StepAnswer). a .refusal) (p .says))
+pub step-number : (job : List ℕ) (s : State) (m : Lent) (r : StepAnswer) (m′ : Lent) → Steps job s m r m′
+    → Numbered (stepSaid (stepped job s m)) (r .refusal)
+step-number job s m r m′ p =
+    step-stands (stepped job s m) (ranged-stepped job s m) (r .refusal) (ap (λ (a : StepAnswer). a .refusal) (p .says))

@@ -10,7 +10,7 @@ use Rattle.moves.specs.Verdicts.{judgedOneSaid}
 use Rattle.splits.specs.Promises.{comparedSaid}
 use Rattle.reader.specs.Promises.{Heard, told, planted}
 use Rattle.reader.proofs.OneReading.{reads-one}
-use Rattle.job.specs.Job.{Outcome}
+use Rattle.job.specs.Steps.{Lent}
 use Rattle.job.specs.declared.State.{State}
 use Rattle.tusvlane.specs.declared.Answer.{Answer}
 use Rattle.tusvlane.specs.declared.Comparison.{Comparison}
@@ -50,6 +50,6 @@ c-plants-one n s out a b p q x z =
 pub c-started-one : (a b : State) → a ≡ first → b ≡ first → a ≡ b
 c-started-one a b x z = x ∙ sym z
 
-pub c-steps-one : (o : Outcome) (a b : StepAnswer) (table t u parts p q out x y : List ℕ) → Steps o a table t parts p out x → Steps o b table u parts q out y → (a ≡ b) × (t ≡ u) × (p ≡ q) × (x ≡ y)
-c-steps-one o a b table t u parts p q out x y g h =
-    (g .says ∙ sym (h .says), g .table-then ∙ sym (h .table-then), g .parts-then ∙ sym (h .parts-then), g .out-then ∙ sym (h .out-then))
+pub c-steps-one : (job : List ℕ) (s : State) (m : Lent) (a b : StepAnswer) (p q : Lent) → Steps job s m a p → Steps job s m b q
+    → (a ≡ b) × (p ≡ q)
+c-steps-one job s m a b p q g h = (g .says ∙ sym (h .says), g .memory ∙ sym (h .memory))

@@ -12,9 +12,8 @@ use Rattle.judge.specs.Promises.{done, tableAfter, howManySame}
 use Rattle.listing.specs.Listing as listing
 use Rattle.listing.specs.Listing.{linesSaid, placeAfter}
 use Rattle.reader.specs.Promises.{Heard, Reads, told, planted}
-use Rattle.job.specs.Job.{Outcome}
-use Rattle.job.specs.Steps as steps
-use Rattle.job.specs.Steps.{toldOf, partsThen}
+use Rattle.job.specs.Steps.{Lent, stepped, toldOf, lentThen}
+use Rattle.job.specs.declared.State.{State}
 use Rattle.tusvlane.specs.declared.Answer.{Answer}
 use Rattle.tusvlane.specs.declared.Placed.{Placed}
 use Rattle.tusvlane.specs.declared.StepAnswer.{StepAnswer}
@@ -58,8 +57,6 @@ pub record Plants (n : ℕ) (s out : List ℕ) (r : Placed) (out′ : List ℕ) 
   pub memory : out′ ≡ planted heard out
 
 -- tusvlane_step: what is told of the outcome, and the lent memory after it.
-pub record Steps (o : Outcome) (r : StepAnswer) (table table′ parts parts′ out out′ : List ℕ) : Type 0 where
-  pub says : r ≡ stepAnswerOf (toldOf o)
-  pub table-then : table′ ≡ steps.tableThen o table
-  pub parts-then : parts′ ≡ partsThen o parts
-  pub out-then : out′ ≡ steps.outThen o out
+pub record Steps (job : List ℕ) (s : State) (m : Lent) (r : StepAnswer) (m′ : Lent) : Type 0 where
+  pub says : r ≡ stepAnswerOf (toldOf (stepped job s m))
+  pub memory : m′ ≡ lentThen (stepped job s m) m

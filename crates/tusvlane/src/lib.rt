@@ -8,7 +8,7 @@ ghost use Rattle.moves.specs.Verdicts.{judgedOneSaid};
 ghost use Rattle.splits.specs.Promises.{comparedSaid};
 ghost use Rattle.fits.specs.Bytes.{moveOf};
 ghost use Rattle.job.specs.Runs as runs;
-ghost use Rattle.job.specs.Steps.{stepped};
+ghost use Rattle.job.specs.Steps.{lending};
 ghost use Rattle.tusvlane.specs.Answers.{codeOf, answerOf, comparisonOf};
 ghost use Rattle.tusvlane.specs.Promises.{Induces, Applies, Judges, Lists, Plants, Steps};
 use fits::Move;
@@ -232,7 +232,7 @@ pub extern "C" fn tusvlane_step(
     partitions: &mut [u64],
     out: &mut [u8],
 ) -> StepAnswer
-    ensures { λ r. ⌜ Steps (stepped (now (job .entry)) state (now (table .entry)) (now (partitions .entry)) (length (now (out .entry)))) r (now (table .entry)) (now (table .exit)) (now (partitions .entry)) (now (partitions .exit)) (now (out .entry)) (now (out .exit)) ⌝ }
+    ensures { λ r. ⌜ Steps (now (job .entry)) state (lending (now (table .entry)) (now (partitions .entry)) (now (out .entry))) r (lending (now (table .exit)) (now (partitions .exit)) (now (out .exit))) ⌝ }
 {
     match job::step(job, state, table, partitions, out) {
         Stepped::Next { state, wrote } => StepAnswer {

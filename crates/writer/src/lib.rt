@@ -5,10 +5,6 @@ use job::Stepped;
 use libc::STDOUT_FILENO;
 use table::Refusal;
 
-// More steps than a job takes, since each but the last reads a byte at least
-// and the longest job has 65535.
-pub const STEPS: u64 = 65537;
-
 // Writes the first bytes of what was lent for lines; whether all of them were
 // written.
 pub fn put(lines: &[u8], wrote: usize) -> bool
@@ -33,15 +29,14 @@ pub fn refused(why: Refusal, place: usize) -> bool {
 
 // Writes the listing of a job, a step over one field at a time, and stops at
 // the first write that fails; whether all was written, so that a listing cut
-// short does not pass for a whole one.
+// short does not pass for a whole one. There is room for any job, and each step
+// but the last goes on in it, so that no step is one too many.
 pub fn list(input: &[u8]) -> bool {
-    let mut tree = [0u8; 250];
-    let mut parts = [0u64; 64];
-    let mut out = [0u8; 8192];
+    let mut tree = [0u8; job::TABLE];
+    let mut parts = [0u64; job::PARTITIONS];
+    let mut out = [0u8; job::LINES];
     let mut s = job::start();
-    let mut left = STEPS;
-    while 0 < left {
-        let moves = s.moves;
+    loop {
         match job::step(input, s, &mut tree, &mut parts, &mut out) {
             Stepped::Next { state, wrote } => {
                 if !put(&out, wrote) {
@@ -50,13 +45,11 @@ pub fn list(input: &[u8]) -> bool {
                 s = state;
             }
             Stepped::Ended => {
-                return end(moves);
+                return end(s.moves);
             }
             Stepped::Refused { why, place } => {
                 return refused(why, place);
             }
         }
-        left -= 1;
     }
-    false
 }

@@ -1,7 +1,10 @@
 -- `job::keep_table` meets its contract. Assumes nothing.
 use mathlib.Core.Path.{sym, ap, _∙_}
+use mathlib.Core.List.{[]}
 use Rattle.table.specs.Says.{checkSays}
-use Rattle.job.proofs.ReadLaws.{kept-refused, kept-next}
+use Rattle.job.specs.Steps.{lending}
+use Rattle.job.proofs.StepLaws.{gives-as, gives-stop}
+use Rattle.job.proofs.ReadLaws.{kept-refused, kept-put}
 use borrow.Author.Needs.{needs}
 use Rattle.job.proofs.keep_table.Statement.{statement}
 use Rattle.job.proofs.keep_table.Tie as tie
@@ -15,25 +18,32 @@ enum-known-answer c = search needs
 enum-told : tie.Need-enum-told
 enum-told c = search needs
 
-copy-requires : tie.Need-copy-requires
-copy-requires c κs = search needs
-
-add-t11 : tie.Need-add-t11
-add-t11 c = search needs
-
-add-t12 : tie.Need-add-t12
-add-t12 c = search needs
+put-table-requires : tie.Need-put-table-requires
+put-table-requires c κs = search needs
 
 returns : tie.Need-returns
 returns c =
-    kept-refused (c .before .before .before .before .before .before .args .at) (c .before .before .before .before .before .before .args .n) (c .before .before .before .before .before .before .args .t .now) (c .before .before .before .before .before .before .args .table .now) (c .before .before .before .before .before .before .pre .1) (c .before .before .before .before .before .before .pre .2) _ (sym (c .before .before .before .check-tree .ensures) ∙ ap checkSays (c .before .answer .given .1))
+    let at-answer = c .before in
+    let at-check-tree = at-answer .before .before in
+    let st = at-check-tree .before .before .before in
+    let a = st .args in
+    let no = sym (at-check-tree .check-tree .ensures) ∙ ap checkSays (at-answer .answer .given .1) in
+    gives-stop (lending (a .table .now) [] []) _ _ (a .at)
+    (kept-refused (a .at) (a .n) (a .t .now) (a .table .now) (st .pre .1) (st .pre .2) _ no)
 
 same-length : tie.Need-same-length
 same-length c = search needs
 
 returns-2 : tie.Need-returns-2
 returns-2 c =
-    kept-next (c .before .before .before .before .before .before .before .before .before .args .at) (c .before .before .before .before .before .before .before .before .before .args .n) (c .before .before .before .before .before .before .before .before .before .args .t .now) (c .before .before .before .before .before .before .before .before .before .args .table .now) (c .before .before .before .before .before .before .before .before .before .pre .1) (c .before .before .before .before .before .before .before .before .before .pre .2) _ _ (sym (c .before .before .before .before .before .before .check-tree .ensures) ∙ ap checkSays (c .before .before .before .before .enum-told .given .1)) (c .before .before .copy .ensures .0) (c .before .before .copy .ensures .1)
+    let at-put-table = c .before .before in
+    let at-enum-told = at-put-table .before .before in
+    let at-check-tree = at-enum-told .before .before in
+    let st = at-check-tree .before .before .before in
+    let a = st .args in
+    let yes = sym (at-check-tree .check-tree .ensures) ∙ ap checkSays (at-enum-told .enum-told .given .1) in
+    gives-as (kept-put (a .at) (a .n) (a .t .now) (a .table .now) (st .pre .1) (st .pre .2) yes)
+    (at-put-table .put-table .ensures)
 
 pub keep-table-spec : {M : Type 1} → statement M
 keep-table-spec =
@@ -42,9 +52,7 @@ keep-table-spec =
     check-tree-requires
     enum-known-answer
     enum-told
-    copy-requires
-    add-t11
-    add-t12
+    put-table-requires
     returns
     same-length
     returns-2)

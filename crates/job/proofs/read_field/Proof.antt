@@ -1,11 +1,10 @@
 -- `job::read_field` meets its contract. Assumes nothing.
 use mathlib.Core.Path.{ap}
-use native.Mathlib.Omega.{arith}
-use lib.ListN.{length}
 use Rattle.fields.specs.Fields.{tagAt}
-use Rattle.job.specs.Steps.{knownOf, fitting}
-use Rattle.job.proofs.StepLaws.{gives-as, tag-first, tag-second}
-use Rattle.job.proofs.FieldSteps.{field-1, field-2, field-3, field-4, taxa-gives, table-gives, partition-gives, far-offset}
+use Rattle.job.specs.Steps.{lending, knownOf, fitting}
+use Rattle.job.proofs.StepLaws.{gives-as, not-first, not-second}
+use Rattle.job.proofs.FieldSteps.{field-1, field-2, field-3, field-4}
+use Rattle.job.proofs.FieldSteps.{taxa-gives, table-gives, partition-gives, far-offset}
 use borrow.Author.Needs.{needs}
 use Rattle.job.proofs.read_field.Statement.{statement}
 use Rattle.job.proofs.read_field.Tie as tie
@@ -18,33 +17,78 @@ read-taxa-requires c κs = search needs
 
 returns : tie.Need-returns
 returns c =
-    gives-as (ap (fitting (c .before .before .before .before .before .before .before .args .s .at) (length (c .before .before .before .before .before .before .before .args .parts .now)) (length (c .before .before .before .before .before .before .before .args .out .now))) (field-1 (c .before .before .before .before .before .before .before .args .job .now) (knownOf (c .before .before .before .before .before .before .before .args .s) (c .before .before .before .before .before .before .before .args .table .now) (c .before .before .before .before .before .before .before .args .parts .now)) (tagAt (c .before .before .before .before .before .before .before .args .job .now) (c .before .before .before .before .before .before .before .args .s .at)) (c .before .if1 .taken))) (taxa-gives (c .before .before .before .before .before .before .before .args .job .now) (c .before .before .before .before .before .before .before .args .s .at) (length (c .before .before .before .before .before .before .before .args .out .now)) _ (c .before .before .before .before .before .before .before .args .table .now) (c .before .before .before .before .before .before .before .args .parts .now) (c .before .before .before .before .before .before .before .args .out .now) (c .read-taxa .ensures))
+    let at-if1 = c .before in
+    let st = at-if1 .before .before .before .before .before .before in
+    let a = st .args in
+    let job = a .job .now in
+    let s = a .s in
+    let m = lending (a .table .now) (a .parts .now) (a .out .now) in
+    gives-as (ap (fitting (s .at) m) (field-1 job (knownOf s m) (tagAt job (s .at)) (at-if1 .if1 .taken)))
+    (taxa-gives job (s .at) _ m (c .read-taxa .ensures))
 
 read-table-requires : tie.Need-read-table-requires
 read-table-requires c κs =
-    (c .before .before .before .before .before .before .before .before .pre .0, c .before .before .before .before .before .before .before .before .pre .1, c .before .before .before .before .before .before .before .before .pre .2 .taxa-big (λ e. omega (arith, tag-first (c .before .before .before .before .before .before .before .before .args .s .at) (c .before .before .before .before .before .before .before .before .args .s .parts) (c .before .before .before .before .before .before .before .before .args .s .moves) (tagAt (c .before .before .before .before .before .before .before .before .args .job .now) (c .before .before .before .before .before .before .before .before .args .s .at)) (c .before .before .before .before .before .before .before .before .pre .3) e, c .before .if2 .taken)), c .before .before .before .before .before .before .before .before .pre .2 .taxa-few, c .before .before .before .before .before .before .before .before .pre .2 .for-table)
+    let at-if1 = c .before .before in
+    let st = at-if1 .before .before .before .before .before .before in
+    let a = st .args in
+    let s = a .s in
+    let tag = tagAt (a .job .now) (s .at) in
+    let later = not-first (s .at) (s .parts) (s .moves) tag (st .pre .3) (at-if1 .if1 .left) in
+    (st .pre .0, st .pre .1, st .pre .2 .taxa-big later, st .pre .2 .taxa-few)
 
 same-length : tie.Need-same-length
 same-length c = search needs
 
 returns-2 : tie.Need-returns-2
 returns-2 c =
-    gives-as (ap (fitting (c .before .before .before .before .before .before .before .before .before .before .before .args .s .at) (length (c .before .before .before .before .before .before .before .before .before .before .before .args .parts .now)) (length (c .before .before .before .before .before .before .before .before .before .before .before .args .out .now))) (field-2 (c .before .before .before .before .before .before .before .before .before .before .before .args .job .now) (knownOf (c .before .before .before .before .before .before .before .before .before .before .before .args .s) (c .before .before .before .before .before .before .before .before .before .before .before .args .table .now) (c .before .before .before .before .before .before .before .before .before .before .before .args .parts .now)) (tagAt (c .before .before .before .before .before .before .before .before .before .before .before .args .job .now) (c .before .before .before .before .before .before .before .before .before .before .before .args .s .at)) (c .before .before .before .before .if2 .taken))) (table-gives (c .before .before .before .before .before .before .before .before .before .before .before .args .job .now) (c .before .before .before .before .before .before .before .before .before .before .before .args .s .at) (length (c .before .before .before .before .before .before .before .before .before .before .before .args .out .now)) _ (c .before .before .before .before .before .before .before .before .before .before .before .args .table .now) (c .before .before .before .before .before .before .before .before .before .before .before .args .parts .now) (c .before .before .before .before .before .before .before .before .before .before .before .args .out .now) (c .before .before .before .before .before .before .before .before .before .before .before .args .s .taxa) _ (c .before .before .read-table .ensures))
+    let at-read-table = c .before .before in
+    let at-if2 = at-read-table .before .before in
+    let st = at-if2 .before .before .before .before .before .before .before in
+    let a = st .args in
+    let job = a .job .now in
+    let s = a .s in
+    let m = lending (a .table .now) (a .parts .now) (a .out .now) in
+    gives-as (ap (fitting (s .at) m) (field-2 job (knownOf s m) (tagAt job (s .at)) (at-if2 .if2 .taken)))
+    (table-gives job (s .at) (s .taxa) _ (a .table .now) _ (a .parts .now) (a .out .now)
+    (at-read-table .read-table .ensures))
 
 read-partition-requires : tie.Need-read-partition-requires
 read-partition-requires c κs =
-    (c .before .before .before .before .before .before .before .before .before .pre .0, c .before .before .before .before .before .before .before .before .before .pre .2 .taxa-big (λ e. omega (arith, tag-first (c .before .before .before .before .before .before .before .before .before .args .s .at) (c .before .before .before .before .before .before .before .before .before .args .s .parts) (c .before .before .before .before .before .before .before .before .before .args .s .moves) (tagAt (c .before .before .before .before .before .before .before .before .before .args .job .now) (c .before .before .before .before .before .before .before .before .before .args .s .at)) (c .before .before .before .before .before .before .before .before .before .pre .3) e, c .before .if3 .taken)), c .before .before .before .before .before .before .before .before .before .pre .2 .taxa-few, c .before .before .before .before .before .before .before .before .before .pre .2 .for-parts)
+    let at-if1 = c .before .before .before in
+    let st = at-if1 .before .before .before .before .before .before in
+    let a = st .args in
+    let s = a .s in
+    let tag = tagAt (a .job .now) (s .at) in
+    let later = not-first (s .at) (s .parts) (s .moves) tag (st .pre .3) (at-if1 .if1 .left) in
+    (st .pre .0, st .pre .2 .taxa-big later, st .pre .2 .taxa-few, st .pre .2 .for-parts)
 
 same-length-2 : tie.Need-same-length-2
 same-length-2 c = search needs
 
 returns-3 : tie.Need-returns-3
 returns-3 c =
-    gives-as (ap (fitting (c .before .before .before .before .before .before .before .before .before .before .before .before .args .s .at) (length (c .before .before .before .before .before .before .before .before .before .before .before .before .args .parts .now)) (length (c .before .before .before .before .before .before .before .before .before .before .before .before .args .out .now))) (field-3 (c .before .before .before .before .before .before .before .before .before .before .before .before .args .job .now) (knownOf (c .before .before .before .before .before .before .before .before .before .before .before .before .args .s) (c .before .before .before .before .before .before .before .before .before .before .before .before .args .table .now) (c .before .before .before .before .before .before .before .before .before .before .before .before .args .parts .now)) (tagAt (c .before .before .before .before .before .before .before .before .before .before .before .before .args .job .now) (c .before .before .before .before .before .before .before .before .before .before .before .before .args .s .at)) (c .before .before .before .before .if3 .taken))) (partition-gives (c .before .before .before .before .before .before .before .before .before .before .before .before .args .job .now) (c .before .before .before .before .before .before .before .before .before .before .before .before .args .s) (length (c .before .before .before .before .before .before .before .before .before .before .before .before .args .out .now)) _ (c .before .before .before .before .before .before .before .before .before .before .before .before .args .table .now) (c .before .before .before .before .before .before .before .before .before .before .before .before .args .parts .now) _ (c .before .before .before .before .before .before .before .before .before .before .before .before .args .out .now) (c .before .before .before .before .before .before .before .before .before .before .before .before .pre .2) (c .before .before .read-partition .ensures))
+    let at-read-partition = c .before .before in
+    let at-if3 = at-read-partition .before .before in
+    let st = at-if3 .before .before .before .before .before .before .before .before in
+    let a = st .args in
+    let job = a .job .now in
+    let s = a .s in
+    let m = lending (a .table .now) (a .parts .now) (a .out .now) in
+    gives-as (ap (fitting (s .at) m) (field-3 job (knownOf s m) (tagAt job (s .at)) (at-if3 .if3 .taken)))
+    (partition-gives job s _ (a .table .now) (a .parts .now) _ (a .out .now)
+    (at-read-partition .read-partition .ensures))
 
 read-move-requires : tie.Need-read-move-requires
 read-move-requires c κs =
-    (c .before .before .before .before .before .before .before .before .before .before .before .pre .0, far-offset (c .before .before .before .before .before .before .before .before .before .before .before .args .s .at) (c .before .before .before .before .before .before .before .before .before .before .before .pre .2 .offset (λ e. c .before .before .before .before .before .if1 .left (tag-first (c .before .before .before .before .before .before .before .before .before .before .before .args .s .at) (c .before .before .before .before .before .before .before .before .before .before .before .args .s .parts) (c .before .before .before .before .before .before .before .before .before .before .before .args .s .moves) (tagAt (c .before .before .before .before .before .before .before .before .before .before .before .args .job .now) (c .before .before .before .before .before .before .before .before .before .before .before .args .s .at)) (c .before .before .before .before .before .before .before .before .before .before .before .pre .3) e))) (λ e. c .before .before .before .before .if2 .left (tag-second (c .before .before .before .before .before .before .before .before .before .before .before .args .s .at) (c .before .before .before .before .before .before .before .before .before .before .before .args .s .parts) (c .before .before .before .before .before .before .before .before .before .before .before .args .s .moves) (tagAt (c .before .before .before .before .before .before .before .before .before .before .before .args .job .now) (c .before .before .before .before .before .before .before .before .before .before .before .args .s .at)) (c .before .before .before .before .before .before .before .before .before .before .before .pre .3) e)), c .before .before .before .before .before .before .before .before .before .before .before .pre .2)
+    let at-if2 = c .before .before .before .before in
+    let at-if1 = at-if2 .before in
+    let st = at-if1 .before .before .before .before .before .before in
+    let a = st .args in
+    let s = a .s in
+    let tag = tagAt (a .job .now) (s .at) in
+    let later = not-first (s .at) (s .parts) (s .moves) tag (st .pre .3) (at-if1 .if1 .left) in
+    let past = not-second (s .at) (s .parts) (s .moves) tag (st .pre .3) (at-if2 .if2 .left) in
+    (st .pre .0, far-offset (s .at) (st .pre .2 .offset later) past, st .pre .2)
 
 same-length-3 : tie.Need-same-length-3
 same-length-3 c = search needs
@@ -57,7 +101,18 @@ same-length-5 c = search needs
 
 returns-4 : tie.Need-returns-4
 returns-4 c =
-    gives-as (ap (fitting (c .before .before .before .before .before .before .before .before .before .before .before .before .before .before .before .before .args .s .at) (length (c .before .before .before .before .before .before .before .before .before .before .before .before .before .before .before .before .args .parts .now)) (length (c .before .before .before .before .before .before .before .before .before .before .before .before .before .before .before .before .args .out .now))) (field-4 (c .before .before .before .before .before .before .before .before .before .before .before .before .before .before .before .before .args .job .now) (knownOf (c .before .before .before .before .before .before .before .before .before .before .before .before .before .before .before .before .args .s) (c .before .before .before .before .before .before .before .before .before .before .before .before .before .before .before .before .args .table .now) (c .before .before .before .before .before .before .before .before .before .before .before .before .before .before .before .before .args .parts .now)) (tagAt (c .before .before .before .before .before .before .before .before .before .before .before .before .before .before .before .before .args .job .now) (c .before .before .before .before .before .before .before .before .before .before .before .before .before .before .before .before .args .s .at)) (c .before .before .before .before .before .before .before .before .before .before .if1 .left) (c .before .before .before .before .before .before .before .before .before .if2 .left) (c .before .before .before .before .before .before .before .before .if3 .left))) (c .before .before .before .before .read-move .ensures)
+    let at-read-move = c .before .before .before .before in
+    let at-if3 = at-read-move .before .before .before .before in
+    let at-if2 = at-if3 .before in
+    let at-if1 = at-if2 .before in
+    let st = at-if1 .before .before .before .before .before .before in
+    let a = st .args in
+    let job = a .job .now in
+    let s = a .s in
+    let m = lending (a .table .now) (a .parts .now) (a .out .now) in
+    let tag = tagAt job (s .at) in
+    let which = field-4 job (knownOf s m) tag (at-if1 .if1 .left) (at-if2 .if2 .left) (at-if3 .if3 .left) in
+    gives-as (ap (fitting (s .at) m) which) (at-read-move .read-move .ensures)
 
 pub read-field-spec : {M : Type 1} → statement M
 read-field-spec =

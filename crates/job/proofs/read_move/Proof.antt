@@ -1,12 +1,12 @@
 -- `job::read_move` meets its contract. Assumes nothing.
-use mathlib.Core.Path.{sym, _∙_, refl}
+use mathlib.Core.Path.{sym, _∙_}
 use native.Mathlib.Omega.{arith}
-use lib.ListN.{length}
 use borrow.Author.Tests.{not-true, not-false}
+use Rattle.table.specs.declared.Refusal.{Refusal}
+use Rattle.fits.specs.Bytes.{moveOf}
+use Rattle.job.specs.Steps.{lending}
 use Rattle.job.proofs.ReadLaws.{reaches}
 use Rattle.job.proofs.StepLaws.{gives-stop, move-12, refused-there, done-there, table-part, parts-held}
-use Rattle.fits.specs.Bytes.{moveOf}
-use Rattle.table.specs.declared.Refusal.{Refusal}
 use borrow.Author.Needs.{needs}
 use Rattle.job.proofs.read_move.Statement.{statement}
 use Rattle.job.proofs.read_move.Tie as tie
@@ -16,14 +16,23 @@ length-right-requires c κs = search needs
 
 returns : tie.Need-returns
 returns c =
-    gives-stop (c .before .before .before .before .before .before .args .table .now) (c .before .before .before .before .before .before .args .parts .now) (c .before .before .before .before .before .before .args .out .now) _ Refusal.Field (c .before .before .before .before .before .before .args .s .at) (move-12 (c .before .before .before .before .before .before .args .job .now) (c .before .before .before .before .before .before .args .s) (c .before .before .before .before .before .before .args .table .now) (c .before .before .before .before .before .before .args .parts .now) (length (c .before .before .before .before .before .before .args .out .now)) (c .before .before .before .before .before .before .pre .2) (c .before .before .before .before .before .before .pre .1) (sym (c .before .length-right .ensures) ∙ not-true (c .before .length-right .result) (c .if1 .taken)))
+    let at-length-right = c .before in
+    let st = at-length-right .before .before .before .before .before in
+    let a = st .args in
+    let no = sym (at-length-right .length-right .ensures) ∙ not-true (at-length-right .length-right .result) (c .if1 .taken) in
+    gives-stop (lending (a .table .now) (a .parts .now) (a .out .now)) _ Refusal.Field (a .s .at)
+    (move-12 (a .job .now) (a .s) (a .table .now) (a .parts .now) (a .out .now) (st .pre .2) (st .pre .1) no)
 
 add-move-in : tie.Need-add-move-in
 add-move-in c = search needs
 
 move-in-requires : tie.Need-move-in-requires
 move-in-requires c κs =
-    omega (arith, reaches (c .before .before .before .before .before .before .args .job .now) (c .before .before .before .before .before .before .args .s .at) 4 (sym (c .before .length-right .ensures) ∙ not-false (c .before .length-right .result) (c .if1 .left)))
+    let at-length-right = c .before in
+    let st = at-length-right .before .before .before .before .before in
+    let a = st .args in
+    let whole = sym (at-length-right .length-right .ensures) ∙ not-false (at-length-right .length-right .result) (c .if1 .left) in
+    omega (arith, reaches (a .job .now) (a .s .at) 4 whole)
 
 table-bytes-requires : tie.Need-table-bytes-requires
 table-bytes-requires c κs = search needs
@@ -32,15 +41,24 @@ add-number : tie.Need-add-number
 add-number c = search needs
 
 slice-relend-prefix-list-move : tie.Need-slice-relend-prefix-list-move
-slice-relend-prefix-list-move c = search needs
+slice-relend-prefix-list-move c =
+    let at-table-bytes = c .before in
+    let st = at-table-bytes .before .before .before .before .before .before .before .before in
+    omega (arith, at-table-bytes .table-bytes .ensures, st .pre .2 .for-table (st .pre .1))
 
 slice-aggregate-list-move : tie.Need-slice-aggregate-list-move
 slice-aggregate-list-move c =
-    table-part (c .before .before .before .before .before .before .before .before .before .before .args .job .now) (c .before .before .before .before .before .before .before .before .before .before .args .s) (c .before .before .before .before .before .before .before .before .before .before .args .table .now) (c .before .before .before .before .before .before .before .before .before .before .args .parts .now) (length (c .before .before .before .before .before .before .before .before .before .before .args .out .now)) (c .before .before .before .before .before .before .before .before .before .before .pre .2) (c .before .before .before .before .before .before .before .before .before .before .pre .1) (c .before .before .table-bytes .result) (c .before .before .table-bytes .ensures)
+    let at-table-bytes = c .before .before in
+    let st = at-table-bytes .before .before .before .before .before .before .before .before in
+    let a = st .args in
+    table-part (a .job .now) (a .s) (a .table .now) (a .parts .now) (a .out .now) (st .pre .2) (st .pre .1)
+    (at-table-bytes .table-bytes .result) (at-table-bytes .table-bytes .ensures)
 
 slice-aggregate-list-move-2 : tie.Need-slice-aggregate-list-move-2
 slice-aggregate-list-move-2 c =
-    sym (parts-held (c .before .before .before .before .before .before .before .before .before .before .before .args .s) (c .before .before .before .before .before .before .before .before .before .before .before .args .table .now) (c .before .before .before .before .before .before .before .before .before .before .before .args .parts .now) (c .before .before .before .before .before .before .before .before .before .before .before .pre .2))
+    let st = c .before .before .before .before .before .before .before .before .before .before .before in
+    let a = st .args in
+    sym (parts-held (a .s) (lending (a .table .now) (a .parts .now) (a .out .now)) (st .pre .2))
 
 list-move-requires : tie.Need-list-move-requires
 list-move-requires c κs = search needs
@@ -62,7 +80,18 @@ same-length-2 c = search needs
 
 returns-2 : tie.Need-returns-2
 returns-2 c =
-    refused-there (c .before .before .before .before .before .before .before .before .before .before .before .before .before .before .before .before .before .before .before .before .args .job .now) (c .before .before .before .before .before .before .before .before .before .before .before .before .before .before .before .before .before .before .before .before .args .s) (c .before .before .before .before .before .before .before .before .before .before .before .before .before .before .before .before .before .before .before .before .args .table .now) (c .before .before .before .before .before .before .before .before .before .before .before .before .before .before .before .before .before .before .before .before .args .parts .now) (length (c .before .before .before .before .before .before .before .before .before .before .before .before .before .before .before .before .before .before .before .before .args .out .now)) (c .before .before .before .before .before .before .before .before .before .before .before .before .before .before .before .before .before .before .before .before .pre .2) (c .before .before .before .before .before .before .before .before .before .before .before .before .before .before .before .before .before .before .before .before .pre .1) (c .before .before .before .before .before .before .before .before .before .before .before .before .before .before .before .before .before .before .before .before .args .out .now) refl (sym (c .before .before .before .before .before .before .before .before .before .before .before .before .before .before .before .length-right .ensures) ∙ not-false (c .before .before .before .before .before .before .before .before .before .before .before .before .before .before .before .length-right .result) (c .before .before .before .before .before .before .before .before .before .before .before .before .before .before .if1 .left)) (c .before .before .before .before .before .before .before .before .before .before .before .before .table-bytes .result) (c .before .before .before .before .before .before .before .before .before .before .before .before .table-bytes .ensures) (moveOf (c .before .before .before .before .before .before .before .before .before .before .before .before .before .move-in .result)) (c .before .before .before .before .before .before .before .before .before .before .before .before .before .move-in .ensures) (c .before .r .given .1) (c .before .before .before .before .before .before .before .list-move .ensures)
+    let at-r = c .before in
+    let at-list-move = at-r .before .before .before .before .before .before in
+    let at-table-bytes = at-list-move .before .before .before .before .before in
+    let at-move-in = at-table-bytes .before in
+    let at-if1 = at-move-in .before in
+    let at-length-right = at-if1 .before in
+    let st = at-length-right .before .before .before .before .before in
+    let a = st .args in
+    let whole = sym (at-length-right .length-right .ensures) ∙ not-false (at-length-right .length-right .result) (at-if1 .if1 .left) in
+    refused-there (a .job .now) (a .s) (a .table .now) (a .parts .now) (a .out .now) (st .pre .2) (st .pre .1) whole
+    (at-table-bytes .table-bytes .result) (at-table-bytes .table-bytes .ensures) (moveOf (at-move-in .move-in .result))
+    (at-move-in .move-in .ensures) (at-r .r .given .1) (at-list-move .list-move .ensures)
 
 same-length-3 : tie.Need-same-length-3
 same-length-3 c = search needs
@@ -72,7 +101,18 @@ same-length-4 c = search needs
 
 returns-3 : tie.Need-returns-3
 returns-3 c =
-    done-there (c .before .before .before .before .before .before .before .before .before .before .before .before .before .before .before .before .before .before .before .before .args .job .now) (c .before .before .before .before .before .before .before .before .before .before .before .before .before .before .before .before .before .before .before .before .args .s) (c .before .before .before .before .before .before .before .before .before .before .before .before .before .before .before .before .before .before .before .before .args .table .now) (c .before .before .before .before .before .before .before .before .before .before .before .before .before .before .before .before .before .before .before .before .args .parts .now) (length (c .before .before .before .before .before .before .before .before .before .before .before .before .before .before .before .before .before .before .before .before .args .out .now)) (c .before .before .before .before .before .before .before .before .before .before .before .before .before .before .before .before .before .before .before .before .pre .2) (c .before .before .before .before .before .before .before .before .before .before .before .before .before .before .before .before .before .before .before .before .pre .1) (c .before .before .before .before .before .before .before .before .before .before .before .before .before .before .before .before .before .before .before .before .args .out .now) refl (sym (c .before .before .before .before .before .before .before .before .before .before .before .before .before .before .before .length-right .ensures) ∙ not-false (c .before .before .before .before .before .before .before .before .before .before .before .before .before .before .before .length-right .result) (c .before .before .before .before .before .before .before .before .before .before .before .before .before .before .if1 .left)) (c .before .before .before .before .before .before .before .before .before .before .before .before .table-bytes .result) (c .before .before .before .before .before .before .before .before .before .before .before .before .table-bytes .ensures) (moveOf (c .before .before .before .before .before .before .before .before .before .before .before .before .before .move-in .result)) (c .before .before .before .before .before .before .before .before .before .before .before .before .before .move-in .ensures) (c .before .e .given .1) (c .before .before .before .before .before .before .before .list-move .ensures)
+    let at-e = c .before in
+    let at-list-move = at-e .before .before .before .before .before .before in
+    let at-table-bytes = at-list-move .before .before .before .before .before in
+    let at-move-in = at-table-bytes .before in
+    let at-if1 = at-move-in .before in
+    let at-length-right = at-if1 .before in
+    let st = at-length-right .before .before .before .before .before in
+    let a = st .args in
+    let whole = sym (at-length-right .length-right .ensures) ∙ not-false (at-length-right .length-right .result) (at-if1 .if1 .left) in
+    done-there (a .job .now) (a .s) (a .table .now) (a .parts .now) (a .out .now) (st .pre .2) (st .pre .1) whole
+    (at-table-bytes .table-bytes .result) (at-table-bytes .table-bytes .ensures) (moveOf (at-move-in .move-in .result))
+    (at-move-in .move-in .ensures) (at-e .e .given .1) (at-list-move .list-move .ensures)
 
 pub read-move-spec : {M : Type 1} → statement M
 read-move-spec =

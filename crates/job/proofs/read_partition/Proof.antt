@@ -1,7 +1,11 @@
 -- `job::read_partition` meets its contract. Assumes nothing.
 use mathlib.Core.Path.{sym, _∙_}
+use mathlib.Core.List.{[]}
 use native.Mathlib.Omega.{arith}
 use borrow.Author.Tests.{not-true, not-false}
+use Rattle.table.specs.declared.Refusal.{Refusal}
+use Rattle.job.specs.Steps.{lending}
+use Rattle.job.proofs.StepLaws.{gives-stop}
 use Rattle.job.proofs.ReadLaws.{reaches, part-12, part-6, part-11, part-next}
 use borrow.Author.Needs.{needs}
 use Rattle.job.proofs.read_partition.Statement.{statement}
@@ -12,28 +16,55 @@ length-right-requires c κs = search needs
 
 returns : tie.Need-returns
 returns c =
-    part-12 (c .before .before .before .before .args .job .now) (c .before .before .before .before .args .s) (c .before .before .before .before .args .parts .now) (sym (c .before .length-right .ensures) ∙ not-true (c .before .length-right .result) (c .if1 .taken))
+    let at-length-right = c .before in
+    let st = at-length-right .before .before .before in
+    let a = st .args in
+    let no = sym (at-length-right .length-right .ensures) ∙ not-true (at-length-right .length-right .result) (c .if1 .taken) in
+    gives-stop (lending [] (a .parts .now) []) _ Refusal.Field (a .s .at) (part-12 (a .job .now) (a .s) (a .parts .now) no)
 
 add-number-in : tie.Need-add-number-in
 add-number-in c = search needs
 
 number-in-requires : tie.Need-number-in-requires
 number-in-requires c κs =
-    omega (arith, reaches (c .before .before .before .before .args .job .now) (c .before .before .before .before .args .s .at) 8 (sym (c .before .length-right .ensures) ∙ not-false (c .before .length-right .result) (c .if1 .left)))
+    let at-length-right = c .before in
+    let st = at-length-right .before .before .before in
+    let a = st .args in
+    let whole = sym (at-length-right .length-right .ensures) ∙ not-false (at-length-right .length-right .result) (c .if1 .left) in
+    omega (arith, reaches (a .job .now) (a .s .at) 8 whole)
 
 within-requires : tie.Need-within-requires
 within-requires c κs = search needs
 
 returns-2 : tie.Need-returns-2
 returns-2 c =
-    part-6 (c .before .before .before .before .before .before .before .args .job .now) (c .before .before .before .before .before .before .before .args .s) (c .before .before .before .before .before .before .before .args .parts .now) (sym (c .before .before .before .before .length-right .ensures) ∙ not-false (c .before .before .before .before .length-right .result) (c .before .before .before .if1 .left)) _ (c .before .before .number-in .ensures) (sym (c .before .within .ensures) ∙ not-true (c .before .within .result) (c .if2 .taken))
+    let at-within = c .before in
+    let at-number-in = at-within .before in
+    let at-if1 = at-number-in .before in
+    let at-length-right = at-if1 .before in
+    let st = at-length-right .before .before .before in
+    let a = st .args in
+    let whole = sym (at-length-right .length-right .ensures) ∙ not-false (at-length-right .length-right .result) (at-if1 .if1 .left) in
+    let no = sym (at-within .within .ensures) ∙ not-true (at-within .within .result) (c .if2 .taken) in
+    gives-stop (lending [] (a .parts .now) []) _ Refusal.Partition (a .s .at)
+    (part-6 (a .job .now) (a .s) (a .parts .now) whole _ (at-number-in .number-in .ensures) no)
 
 sub-free : tie.Need-sub-free
 sub-free c = search needs
 
 returns-3 : tie.Need-returns-3
 returns-3 c =
-    part-11 (c .before .before .before .before .before .before .before .before .args .job .now) (c .before .before .before .before .before .before .before .before .args .s) (c .before .before .before .before .before .before .before .before .args .parts .now) (sym (c .before .before .before .before .before .length-right .ensures) ∙ not-false (c .before .before .before .before .before .length-right .result) (c .before .before .before .before .if1 .left)) _ (c .before .before .before .number-in .ensures) (sym (c .before .before .within .ensures) ∙ not-false (c .before .before .within .result) (c .before .if2 .left)) (c .before .before .before .before .before .before .before .before .pre .3) (search needs)
+    let at-if2 = c .before in
+    let at-within = at-if2 .before in
+    let at-number-in = at-within .before in
+    let at-if1 = at-number-in .before in
+    let at-length-right = at-if1 .before in
+    let st = at-length-right .before .before .before in
+    let a = st .args in
+    let whole = sym (at-length-right .length-right .ensures) ∙ not-false (at-length-right .length-right .result) (at-if1 .if1 .left) in
+    let yes = sym (at-within .within .ensures) ∙ not-false (at-within .within .result) (at-if2 .if2 .left) in
+    gives-stop (lending [] (a .parts .now) []) _ Refusal.Room (a .s .at)
+    (part-11 (a .job .now) (a .s) (a .parts .now) whole _ (at-number-in .number-in .ensures) yes (st .pre .3) (search needs))
 
 mul-parts : tie.Need-mul-parts
 mul-parts c = search needs
@@ -52,7 +83,16 @@ same-length c = search needs
 
 returns-4 : tie.Need-returns-4
 returns-4 c =
-    part-next (c .before .before .before .before .before .before .before .before .args .job .now) (c .before .before .before .before .before .before .before .before .args .s) (c .before .before .before .before .before .before .before .before .args .parts .now) (sym (c .before .before .before .before .before .length-right .ensures) ∙ not-false (c .before .before .before .before .before .length-right .result) (c .before .before .before .before .if1 .left)) _ (c .before .before .before .number-in .ensures) (sym (c .before .before .within .ensures) ∙ not-false (c .before .before .within .result) (c .before .if2 .left)) (c .before .before .before .before .before .before .before .before .pre .3) (search needs)
+    let at-if2 = c .before in
+    let at-within = at-if2 .before in
+    let at-number-in = at-within .before in
+    let at-if1 = at-number-in .before in
+    let at-length-right = at-if1 .before in
+    let st = at-length-right .before .before .before in
+    let a = st .args in
+    let whole = sym (at-length-right .length-right .ensures) ∙ not-false (at-length-right .length-right .result) (at-if1 .if1 .left) in
+    let yes = sym (at-within .within .ensures) ∙ not-false (at-within .within .result) (at-if2 .if2 .left) in
+    part-next (a .job .now) (a .s) (a .parts .now) whole _ (at-number-in .number-in .ensures) yes (st .pre .3) (search needs)
 
 pub read-partition-spec : {M : Type 1} → statement M
 read-partition-spec =

@@ -1,7 +1,10 @@
 -- `job::read_table` meets its contract. Assumes nothing.
-use Prim.Native.Nat.{_+_, _*_, _-_}
-use Rattle.tree.specs.Tree.{rows}
+use mathlib.Core.List.{[]}
+use Prim.Native.Nat.{_+_, _-_}
 use native.Mathlib.Omega.{arith}
+use Rattle.table.specs.declared.Refusal.{Refusal}
+use Rattle.job.specs.Steps.{lending}
+use Rattle.job.proofs.StepLaws.{gives-as, gives-stop}
 use Rattle.job.proofs.ReadLaws.{table-12, table-2, table-cut, table-kept}
 use borrow.Author.Needs.{needs}
 use Rattle.job.proofs.read_table.Statement.{statement}
@@ -12,7 +15,10 @@ sub-rest c = search needs
 
 returns : tie.Need-returns
 returns c =
-    table-12 (c .before .before .before .args .job .now) (c .before .before .before .args .at) (c .before .before .before .args .n) (c .before .before .before .args .table .now) (search needs)
+    let st = c .before .before .before in
+    let a = st .args in
+    gives-stop (lending (a .table .now) [] []) _ Refusal.Field (a .at)
+    (table-12 (a .job .now) (a .at) (a .n) (a .table .now) (search needs))
 
 table-bytes-requires : tie.Need-table-bytes-requires
 table-bytes-requires c κs = search needs
@@ -22,11 +28,17 @@ stated-requires c κs = search needs
 
 returns-2 : tie.Need-returns-2
 returns-2 c =
-    table-2 (c .before .before .before .before .before .before .args .job .now) (c .before .before .before .before .before .before .args .at) (c .before .before .before .before .before .before .args .n) (c .before .before .before .before .before .before .args .table .now) (search needs) (λ e. search needs)
+    let st = c .before .before .before .before .before .before in
+    let a = st .args in
+    gives-stop (lending (a .table .now) [] []) _ Refusal.Length (a .at)
+    (table-2 (a .job .now) (a .at) (a .n) (a .table .now) (search needs) (λ e. search needs))
 
 returns-3 : tie.Need-returns-3
 returns-3 c =
-    table-cut (c .before .before .before .before .before .before .before .args .job .now) (c .before .before .before .before .before .before .before .args .at) (c .before .before .before .before .before .before .before .args .n) (c .before .before .before .before .before .before .before .args .table .now) (search needs) (search needs) (search needs)
+    let st = c .before .before .before .before .before .before .before in
+    let a = st .args in
+    gives-stop (lending (a .table .now) [] []) _ Refusal.Field (a .at)
+    (table-cut (a .job .now) (a .at) (a .n) (a .table .now) (search needs) (search needs) (search needs))
 
 add-from : tie.Need-add-from
 add-from c = search needs
@@ -51,7 +63,15 @@ same-length c = search needs
 
 returns-4 : tie.Need-returns-4
 returns-4 c =
-    table-kept (c .before .before .before .before .before .before .before .before .before .before .before .before .args .job .now) (c .before .before .before .before .before .before .before .before .before .before .before .before .args .at) (c .before .before .before .before .before .before .before .before .before .before .before .before .args .n) (c .before .before .before .before .before .before .before .before .before .before .before .before .args .table .now) (search needs) (search needs) (search needs) (c .before .before .before .before .before .before .before .before .before .before .before .before .args .at + 3 + c .before .before .before .before .before .before .before .before .table-bytes .result - (c .before .before .before .before .before .before .before .before .before .before .before .before .args .at + 3)) (omega (arith, c .before .before .before .before .before .before .before .before .table-bytes .ensures)) _ _ (c .before .before .keep-table .ensures)
+    let at-keep-table = c .before .before in
+    let at-table-bytes = at-keep-table .before .before .before .before .before .before in
+    let st = at-table-bytes .before .before .before .before in
+    let a = st .args in
+    let l = at-table-bytes .table-bytes .result in
+    let from = a .at + 3 in
+    gives-as (table-kept (a .job .now) (a .at) (a .n) (a .table .now) (search needs) (search needs) (search needs)
+    (from + l - from) (omega (arith, at-table-bytes .table-bytes .ensures)))
+    (at-keep-table .keep-table .ensures)
 
 pub read-table-spec : {M : Type 1} → statement M
 read-table-spec =

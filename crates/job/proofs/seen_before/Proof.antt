@@ -4,7 +4,7 @@ use mathlib.Core.Bool.{Bool, _||_}
 use mathlib.Core.List.{[]}
 use borrow.Author.Tests.{eq-eqb, ne-eqb}
 use Rattle.job.specs.Job.{seenSoFar}
-use Rattle.job.specs.Steps.{knownOf}
+use Rattle.job.specs.Steps.{lending, knownOf}
 use Rattle.job.proofs.seen_before.Statement.{statement}
 use Rattle.job.proofs.seen_before.Tie as tie
 
@@ -15,12 +15,12 @@ seen-so-far-requires c κs =
 returns : tie.Need-returns
 returns c =
     let a = c .before .before .before .args in
-    c .seen-so-far .ensures ∙ sym (ap (λ (b : Bool). b || seenSoFar (knownOf (a .s) [] (a .parts .now))) (ne-eqb (a .tag) 3 (c .before .if1 .taken)))
+    c .seen-so-far .ensures ∙ sym (ap (λ (b : Bool). b || seenSoFar (knownOf (a .s) (lending [] (a .parts .now) []))) (ne-eqb (a .tag) 3 (c .before .if1 .taken)))
 
 returns-2 : tie.Need-returns-2
 returns-2 c =
     let a = c .before .before .args in
-    sym (ap (λ (b : Bool). b || seenSoFar (knownOf (a .s) [] (a .parts .now))) (eq-eqb (a .tag) 3 (c .if1 .left)))
+    sym (ap (λ (b : Bool). b || seenSoFar (knownOf (a .s) (lending [] (a .parts .now) []))) (eq-eqb (a .tag) 3 (c .if1 .left)))
 
 pub seen-before-spec : {M : Type 1} → statement M
 seen-before-spec = tie.close (tie.spec seen-so-far-requires returns returns-2)

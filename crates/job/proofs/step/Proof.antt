@@ -1,14 +1,20 @@
 -- `job::step` meets its contract. Assumes nothing.
 use mathlib.Core.Path.{sym, ap, _∙_}
+use Rattle.table.specs.declared.Refusal.{Refusal}
 use Rattle.fits.specs.Bytes.{fittedSays}
-use Rattle.job.proofs.StateLaws.{held-of, gives-13, gives-refused, gives-next}
+use Rattle.job.specs.Steps.{lending}
+use Rattle.job.proofs.StepLaws.{gives-as, gives-stop}
+use Rattle.job.proofs.StateLaws.{held-of, step-13, step-refused, step-next}
 use borrow.Author.Needs.{needs}
 use Rattle.job.proofs.step.Statement.{statement}
 use Rattle.job.proofs.step.Tie as tie
 
 returns : tie.Need-returns
 returns c =
-    gives-13 (c .before .before .before .before .before .args .job .now) (c .before .before .before .before .before .args .s) (c .before .before .before .before .before .args .table .now) (c .before .before .before .before .before .args .parts .now) (c .before .before .before .before .before .args .out .now) (c .if1 .taken)
+    let st = c .before .before .before .before .before in
+    let a = st .args in
+    let m = lending (a .table .now) (a .parts .now) (a .out .now) in
+    gives-stop m _ Refusal.Long 0 (step-13 (a .job .now) (a .s) m (c .if1 .taken))
 
 state-right-requires : tie.Need-state-right-requires
 state-right-requires c κs = search needs
@@ -21,11 +27,14 @@ enum-told c = search needs
 
 read-next-requires : tie.Need-read-next-requires
 read-next-requires c κs =
-    (c .before .before .before .before .before .before .if1 .left, held-of (c .before .before .before .before .before .before .before .before .before .before .before .args .s) (c .before .before .before .before .before .before .before .before .before .before .before .args .table .now) (c .before .before .before .before .before .before .before .before .before .before .before .args .parts .now) (sym (c .before .before .before .before .before .state-right .ensures) ∙ ap fittedSays (c .before .before .before .enum-told .given .1)))
-
-returns-2 : tie.Need-returns-2
-returns-2 c =
-    gives-refused (c .before .before .before .before .before .before .before .before .before .args .job .now) (c .before .before .before .before .before .before .before .before .before .args .s) (c .before .before .before .before .before .before .before .before .before .args .table .now) (c .before .before .before .before .before .before .before .before .before .args .parts .now) (c .before .before .before .before .before .before .before .before .before .args .out .now) (c .before .before .before .before .if1 .left) _ (sym (c .before .before .before .state-right .ensures) ∙ ap fittedSays (c .before .fit .given .1))
+    let at-enum-told = c .before .before .before in
+    let at-state-right = at-enum-told .before .before in
+    let at-if1 = at-state-right .before .before .before in
+    let st = at-if1 .before .before .before .before .before in
+    let a = st .args in
+    let m = lending (a .table .now) (a .parts .now) (a .out .now) in
+    let yes = sym (at-state-right .state-right .ensures) ∙ ap fittedSays (at-enum-told .enum-told .given .1) in
+    (at-if1 .if1 .left, held-of (a .s) m yes)
 
 same-length : tie.Need-same-length
 same-length c = search needs
@@ -33,12 +42,37 @@ same-length c = search needs
 same-length-2 : tie.Need-same-length-2
 same-length-2 c = search needs
 
+returns-2 : tie.Need-returns-2
+returns-2 c =
+    let at-fit = c .before in
+    let at-state-right = at-fit .before .before in
+    let at-if1 = at-state-right .before .before .before in
+    let st = at-if1 .before .before .before .before .before in
+    let a = st .args in
+    let m = lending (a .table .now) (a .parts .now) (a .out .now) in
+    let no = sym (at-state-right .state-right .ensures) ∙ ap fittedSays (at-fit .fit .given .1) in
+    gives-stop m _ _ (a .s .at) (step-refused (a .job .now) (a .s) m (at-if1 .if1 .left) _ no)
+
 same-length-3 : tie.Need-same-length-3
 same-length-3 c = search needs
 
+same-length-4 : tie.Need-same-length-4
+same-length-4 c = search needs
+
+same-length-5 : tie.Need-same-length-5
+same-length-5 c = search needs
+
 returns-3 : tie.Need-returns-3
 returns-3 c =
-    gives-next (c .before .before .before .before .before .before .before .before .before .before .before .before .before .before .before .before .before .before .args .job .now) (c .before .before .before .before .before .before .before .before .before .before .before .before .before .before .before .before .before .before .args .s) (c .before .before .before .before .before .before .before .before .before .before .before .before .before .before .before .before .before .before .args .table .now) (c .before .before .before .before .before .before .before .before .before .before .before .before .before .before .before .before .before .before .args .parts .now) (c .before .before .before .before .before .before .before .before .before .before .before .before .before .before .before .before .before .before .args .out .now) (c .before .before .before .before .before .before .before .before .before .before .before .before .before .if1 .left) (sym (c .before .before .before .before .before .before .before .before .before .before .before .before .state-right .ensures) ∙ ap fittedSays (c .before .before .before .before .before .before .before .before .before .before .enum-told .given .1)) (c .before .before .before .before .before .before .read-next .ensures)
+    let at-read-next = c .before .before .before .before .before .before in
+    let at-enum-told = at-read-next .before .before .before .before in
+    let at-state-right = at-enum-told .before .before in
+    let at-if1 = at-state-right .before .before .before in
+    let st = at-if1 .before .before .before .before .before in
+    let a = st .args in
+    let m = lending (a .table .now) (a .parts .now) (a .out .now) in
+    let yes = sym (at-state-right .state-right .ensures) ∙ ap fittedSays (at-enum-told .enum-told .given .1) in
+    gives-as (step-next (a .job .now) (a .s) m (at-if1 .if1 .left) yes) (at-read-next .read-next .ensures)
 
 pub step-spec : {M : Type 1} → statement M
 step-spec =
@@ -49,8 +83,10 @@ step-spec =
     enum-known-fit
     enum-told
     read-next-requires
-    returns-2
     same-length
     same-length-2
+    returns-2
     same-length-3
+    same-length-4
+    same-length-5
     returns-3)

@@ -7,7 +7,7 @@ use lib.ListN.{length, length-replicate}
 use Rattle.taxa.specs.Most.{most}
 use Rattle.tree.specs.Tree.{rows}
 use Rattle.tree.specs.Refusals.{Said, gives}
-use Rattle.tree.proofs.Lists.{Asc}
+use Rattle.tree.specs.Lists.{Asc}
 use Rattle.tree.proofs.SplitLaws.{splits-asc}
 use borrow.Author.Needs.{needs}
 use Rattle.splits.proofs.compare_trees.Statement.{statement}

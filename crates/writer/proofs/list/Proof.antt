@@ -1,26 +1,34 @@
--- `writer::list` meets its contract. Assumes nothing.
-use mathlib.Core.Path.{sym, ap, _∙_, _≡_}
+-- `writer::list` meets its contract. At each turn the state and the memory are
+-- such as the steps over the job come to, and there is room for any job; the
+-- measure is what is left of the job. Assumes nothing.
+use mathlib.Core.Path.{_≡_, refl}
+use Prim.Native.Nat.{suc, _-_}
 use native.Mathlib.Omega.{arith}
 use lib.ListN.{length}
-use Rattle.job.specs.Steps.{steppedSays}
-use Rattle.job.proofs.RoomLaws.{wrote-fits}
+use Rattle.job.specs.Steps.{lending}
+use Rattle.job.specs.Sound.{Going}
+use Rattle.job.proofs.StepForward.{step-forward}
+use Rattle.job.proofs.GoingLaws.{room-enough, going-first, going-next}
 use borrow.Author.Needs.{needs}
 use Rattle.writer.proofs.list.Statement.{statement}
 use Rattle.writer.proofs.list.Tie as tie
 
 abbrev Inv-loop : tie.InvT-loop
-Inv-loop input tree₀ parts₀ out₀ s₀ left₀ tree parts out s left =
-    (length tree ≡ 250) × (length parts ≡ 64) × (length out ≡ 8192)
+Inv-loop input tree₀ parts₀ out₀ s₀ tree parts out s =
+    Going input s (lending tree parts out) × (length tree ≡ 250) × (length parts ≡ 64) × (length out ≡ 8192)
 
 abbrev μ-loop : tie.MeasureT-loop
-μ-loop input tree₀ parts₀ out₀ s₀ left₀ tree parts out s left =
-    left
+μ-loop input tree₀ parts₀ out₀ s₀ tree parts out s = suc (length input) - s .at
 
 start-requires : tie.Need-start-requires Inv-loop μ-loop
 start-requires c κs = search needs
 
 loop-holds : tie.Need-loop-holds Inv-loop μ-loop
-loop-holds c = search needs
+loop-holds c =
+    let st = c .before .before in
+    let a = st .args in
+    let roomy = room-enough _ _ _ refl refl refl in
+    (going-first (a .input .now) _ _ (c .start .ensures) roomy, refl, refl, refl)
 
 slice-aggregate-step : tie.Need-slice-aggregate-step Inv-loop μ-loop
 slice-aggregate-step c = search needs
@@ -42,10 +50,38 @@ slice-aggregate-put c = search needs
 
 put-requires : tie.Need-put-requires Inv-loop μ-loop
 put-requires c κs =
-    omega (arith, wrote-fits (c .before .before .before .before .before .before .before .before .before .before .before .before .before .before .before .args .input .now) (c .before .before .before .before .before .before .before .before .before .before .before .before .loop .s) (c .before .before .before .before .before .before .before .before .before .before .before .before .loop .tree) (c .before .before .before .before .before .before .before .before .before .before .before .before .loop .parts) (length (c .before .before .before .before .before .before .before .before .before .before .before .before .loop .out)) (c .before .before .state .given .0 .0) (c .before .before .state .given .0 .1 .0) (sym (ap steppedSays (c .before .before .state .given .1)) ∙ c .before .before .before .before .before .before .before .step .ensures .says))
+    let at-state = c .before .before in
+    let at-step = at-state .before .before .before .before .before in
+    let at-loop = at-step .before .before .before .before in
+    let st = at-loop .before .before .before in
+    let a = st .args in
+    let at = at-loop .loop in
+    let m = lending (at .tree) (at .parts) (at .out) in
+    let go = step-forward (a .input .now) (at .s) m (at-state .state .given .1) (at-step .step .ensures) in
+    omega (arith, go .2)
 
 returns : tie.Need-returns Inv-loop μ-loop
 returns c = search needs
+
+loop-less : tie.Need-loop-less Inv-loop μ-loop
+loop-less c =
+    let at-state = c .before .before .before .before in
+    let at-step = at-state .before .before .before .before .before in
+    let at-loop = at-step .before .before .before .before in
+    let st = at-loop .before .before .before in
+    let a = st .args in
+    let at = at-loop .loop in
+    let m = lending (at .tree) (at .parts) (at .out) in
+    let go = step-forward (a .input .now) (at .s) m (at-state .state .given .1) (at-step .step .ensures) in
+    omega (arith, go .0, go .1)
+
+loop-again : tie.Need-loop-again Inv-loop μ-loop
+loop-again c =
+    let at-state = c .before .before .before .before in
+    let at-step = at-state .before .before .before .before .before in
+    let at-loop = at-step .before .before .before .before in
+    let going = going-next (at-loop .loop .inv .0) (at-state .state .given .1) (at-step .step .ensures) in
+    (going, search needs, search needs, search needs)
 
 enum-told : tie.Need-enum-told Inv-loop μ-loop
 enum-told c = search needs
@@ -65,18 +101,6 @@ refused-requires c κs = search needs
 returns-3 : tie.Need-returns-3 Inv-loop μ-loop
 returns-3 c = search needs
 
-sub-left : tie.Need-sub-left Inv-loop μ-loop
-sub-left c = search needs
-
-loop-less : tie.Need-loop-less Inv-loop μ-loop
-loop-less c = search needs
-
-loop-again : tie.Need-loop-again Inv-loop μ-loop
-loop-again c = search needs
-
-returns-4 : tie.Need-returns-4 Inv-loop μ-loop
-returns-4 c = search needs
-
 pub list-spec : {M : Type 1} → statement M
 list-spec =
     tie.close
@@ -93,13 +117,11 @@ list-spec =
     slice-aggregate-put
     put-requires
     returns
+    loop-less
+    loop-again
     enum-told
     end-requires
     returns-2
     enum-known-why
     refused-requires
-    returns-3
-    sub-left
-    loop-less
-    loop-again
-    returns-4)
+    returns-3)
