@@ -36,7 +36,7 @@ run-from job short (suc f) k m s roomy e =
     go ih (next k′ ls) h =
         ap (λ (l : List ℕ). ls ++ l)
         (ih k′ (lentThen (next k′ ls) m) (sound-next job k s k′ ls h) (memory-roomy job short k s m roomy k′ ls h)
-          (memory-keeps job short k s m roomy k′ ls h))
+        (memory-keeps job short k s m roomy k′ ls h))
     go ih over h = refl
     go ih (stop r p) h = refl
 

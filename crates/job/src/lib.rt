@@ -29,7 +29,9 @@ const LONGEST: usize = 65535;
 // room-enough in proofs/GoingLaws.antt, and that no job is then refused for
 // room is going-field there.
 pub const TABLE: usize = 250;
+
 pub const PARTITIONS: usize = 64;
+
 pub const LINES: usize = 8192;
 
 // How far a job was read: the offset of the next field, the number of taxa,

@@ -97,15 +97,13 @@ fn tally(lines: u64, out: &[u8], wrote: usize)
 // The same as the listing, but of the lines of moves only their number and the
 // last move's, since a long job has thousands.
 fn count(input: &[u8]) {
-    let mut tree = [0u8; 250];
-    let mut parts = [0u64; 64];
-    let mut out = [0u8; 8192];
+    let mut tree = [0u8; job::TABLE];
+    let mut parts = [0u64; job::PARTITIONS];
+    let mut out = [0u8; job::LINES];
     let mut s = job::start();
     let mut lines: u64 = 0;
     let mut last: usize = 0;
-    let mut left = writer::STEPS;
-    while 0 < left {
-        let moves = s.moves;
+    loop {
         match job::step(input, s, &mut tree, &mut parts, &mut out) {
             Stepped::Next { state, wrote } => {
                 lines = std::num::wrapping_add_u64(lines, feeds(&out[..wrote]));
@@ -114,7 +112,7 @@ fn count(input: &[u8]) {
             }
             Stepped::Ended => {
                 tally(lines, &out, last);
-                writer::end(moves);
+                writer::end(s.moves);
                 return;
             }
             Stepped::Refused { why, place } => {
@@ -123,7 +121,6 @@ fn count(input: &[u8]) {
                 return;
             }
         }
-        left -= 1;
     }
 }
 
@@ -228,6 +225,20 @@ fn thrice(job: &mut [u8], at: usize, turns: u64) -> usize {
     end
 }
 
+// The job of examples/two-moves: the second move goes onto row 7, which the
+// first changed.
+fn two_moves() {
+    let mut j = [0u8; 128];
+    let a = tree(&mut j, 6, 18, &S);
+    let b = part(&mut j, a, 63);
+    let c = part(&mut j, b, 29);
+    let e = part(&mut j, c, 51);
+    let f = part(&mut j, e, 15);
+    let g = change(&mut j, f, 2, 0, 7, 0);
+    let h = change(&mut j, g, 2, 4, 7, 0);
+    run(4, b"two moves, the second on rows the first changed", &j, h);
+}
+
 // The job of document 01, the same refused, and jobs of several moves.
 fn documents() {
     let mut j = DOCUMENT;
@@ -237,9 +248,9 @@ fn documents() {
     let mut l = [0u8; 256];
     let a = begun(&mut l);
     run(3, b"no moves", &l, a);
+    two_moves();
     let b = change(&mut l, a, 2, 0, 7, 0);
     let c = change(&mut l, b, 1, 4, 3, 5);
-    run(4, b"two moves, the second on rows the first changed", &l, c);
     let e = change(&mut l, c, 2, 0, 1, 0);
     let f = change(&mut l, e, 3, 4, 0, 2);
     run(5, b"four moves", &l, f);

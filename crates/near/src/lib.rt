@@ -5,7 +5,7 @@ ghost use lib.ListN.{length, getD};
 ghost use Rattle.taxa.specs.Most.{most};
 ghost use Rattle.tree.specs.Tree.{nodes};
 ghost use Rattle.table.specs.Rowed.{Rowed};
-ghost use Rattle.near.specs.Near.{noRows, hooked, Near, otherFirst, otherSecond};
+ghost use Rattle.near.specs.Near.{noRows, hooked, Hooked, otherFirst, otherSecond};
 
 // Three places for each of the most nodes that a tree has.
 pub const PLACES: usize = 378;
@@ -39,7 +39,7 @@ fn hook(a: &mut [u8; PLACES], v: usize, r: u8)
 // Puts the rows at each node into their places, all of which are free before.
 pub fn hook_rows(n: usize, t: &[u8], a: &mut [u8; PLACES])
     requires { ⌜ (Rowed n (now t)) × (now a ≡ noRows) ⌝ }
-    ensures { λ _. ⌜ Near n (now (t .entry)) (now (a .exit)) ⌝ }
+    ensures { λ _. ⌜ Hooked n (now (t .entry)) (now (a .exit)) ⌝ }
 {
     let m = 2 * n - 3;
     let mut i: usize = 0;

@@ -1,22 +1,21 @@
 -- `job_cases::count` meets its contract. Assumes nothing.
-use mathlib.Core.Path.{sym, ap, _∙_, _≡_}
-use Prim.Native.Nat.{_≤_}
+use mathlib.Core.Path.{_≡_, sym}
+use Prim.Native.Nat.{suc, _-_, _≤_}
 use native.Mathlib.Omega.{arith}
-use lib.Seq.{length-take-le}
 use lib.ListN.{length}
-use Rattle.job.specs.Steps.{steppedSays}
-use Rattle.job.proofs.RoomLaws.{wrote-fits}
+use lib.Seq.{length-take-le}
+use Rattle.job.specs.Steps.{lending}
+use Rattle.job.proofs.StepForward.{step-forward}
 use borrow.Author.Needs.{needs}
 use Rattle.job_cases.proofs.count.Statement.{statement}
 use Rattle.job_cases.proofs.count.Tie as tie
 
 abbrev Inv-loop : tie.InvT-loop
-Inv-loop input tree₀ parts₀ out₀ s₀ lines₀ last₀ left₀ tree parts out s lines last left =
+Inv-loop input tree₀ parts₀ out₀ s₀ lines₀ last₀ tree parts out s lines last =
     (length tree ≡ 250) × (length parts ≡ 64) × (length out ≡ 8192) × (last ≤ 8192)
 
 abbrev μ-loop : tie.MeasureT-loop
-μ-loop input tree₀ parts₀ out₀ s₀ lines₀ last₀ left₀ tree parts out s lines last left =
-    left
+μ-loop input tree₀ parts₀ out₀ s₀ lines₀ last₀ tree parts out s lines last = suc (length input) - s .at
 
 start-requires : tie.Need-start-requires Inv-loop μ-loop
 start-requires c κs = search needs
@@ -41,17 +40,57 @@ enum-known-state c = search needs
 
 array-share-prefix-out : tie.Need-array-share-prefix-out Inv-loop μ-loop
 array-share-prefix-out c =
-    omega (arith, wrote-fits (c .before .before .before .before .before .before .before .before .before .before .before .before .before .before .args .input .now) (c .before .before .before .before .before .before .before .before .before .before .before .loop .s) (c .before .before .before .before .before .before .before .before .before .before .before .loop .tree) (c .before .before .before .before .before .before .before .before .before .before .before .loop .parts) (length (c .before .before .before .before .before .before .before .before .before .before .before .loop .out)) (c .before .state .given .0 .0) (c .before .state .given .0 .1 .0) (sym (ap steppedSays (c .before .state .given .1)) ∙ c .before .before .before .before .before .before .step .ensures .says))
+    let at-state = c .before in
+    let at-step = at-state .before .before .before .before .before in
+    let at-loop = at-step .before .before .before .before in
+    let st = at-loop .before .before .before in
+    let a = st .args in
+    let at = at-loop .loop in
+    let m = lending (at .tree) (at .parts) (at .out) in
+    let go = step-forward (a .input .now) (at .s) m (at-state .state .given .1) (at-step .step .ensures) in
+    omega (arith, go .2)
 
 slice-aggregate-feeds : tie.Need-slice-aggregate-feeds Inv-loop μ-loop
 slice-aggregate-feeds c =
-    sym (length-take-le _ _ (omega (arith, wrote-fits (c .before .before .before .before .before .before .before .before .before .before .before .before .before .before .before .args .input .now) (c .before .before .before .before .before .before .before .before .before .before .before .before .loop .s) (c .before .before .before .before .before .before .before .before .before .before .before .before .loop .tree) (c .before .before .before .before .before .before .before .before .before .before .before .before .loop .parts) (length (c .before .before .before .before .before .before .before .before .before .before .before .before .loop .out)) (c .before .before .state .given .0 .0) (c .before .before .state .given .0 .1 .0) (sym (ap steppedSays (c .before .before .state .given .1)) ∙ c .before .before .before .before .before .before .before .step .ensures .says))))
+    let at-state = c .before .before in
+    let at-step = at-state .before .before .before .before .before in
+    let at-loop = at-step .before .before .before .before in
+    let st = at-loop .before .before .before in
+    let a = st .args in
+    let at = at-loop .loop in
+    let m = lending (at .tree) (at .parts) (at .out) in
+    let go = step-forward (a .input .now) (at .s) m (at-state .state .given .1) (at-step .step .ensures) in
+    sym (length-take-le _ _ (omega (arith, go .2)))
 
 feeds-requires : tie.Need-feeds-requires Inv-loop μ-loop
 feeds-requires c κs = search needs
 
 wrapping-add-u64-requires : tie.Need-wrapping-add-u64-requires Inv-loop μ-loop
 wrapping-add-u64-requires c κs = search needs
+
+loop-less : tie.Need-loop-less Inv-loop μ-loop
+loop-less c =
+    let at-state = c .before .before .before .before in
+    let at-step = at-state .before .before .before .before .before in
+    let at-loop = at-step .before .before .before .before in
+    let st = at-loop .before .before .before in
+    let a = st .args in
+    let at = at-loop .loop in
+    let m = lending (at .tree) (at .parts) (at .out) in
+    let go = step-forward (a .input .now) (at .s) m (at-state .state .given .1) (at-step .step .ensures) in
+    omega (arith, go .0, go .1)
+
+loop-again : tie.Need-loop-again Inv-loop μ-loop
+loop-again c =
+    let at-state = c .before .before .before .before in
+    let at-step = at-state .before .before .before .before .before in
+    let at-loop = at-step .before .before .before .before in
+    let st = at-loop .before .before .before in
+    let a = st .args in
+    let at = at-loop .loop in
+    let m = lending (at .tree) (at .parts) (at .out) in
+    let go = step-forward (a .input .now) (at .s) m (at-state .state .given .1) (at-step .step .ensures) in
+    (search needs, search needs, search needs, omega (arith, go .2))
 
 enum-told : tie.Need-enum-told Inv-loop μ-loop
 enum-told c = search needs
@@ -83,19 +122,6 @@ refused-requires c κs = search needs
 returns-2 : tie.Need-returns-2 Inv-loop μ-loop
 returns-2 c = search needs
 
-sub-left : tie.Need-sub-left Inv-loop μ-loop
-sub-left c = search needs
-
-loop-less : tie.Need-loop-less Inv-loop μ-loop
-loop-less c = search needs
-
-loop-again : tie.Need-loop-again Inv-loop μ-loop
-loop-again c =
-    (search needs, search needs, search needs, omega (arith, wrote-fits (c .before .before .before .before .before .before .before .before .before .before .before .before .before .before .before .before .before .args .input .now) (c .before .before .before .before .before .before .before .before .before .before .before .before .before .before .loop .s) (c .before .before .before .before .before .before .before .before .before .before .before .before .before .before .loop .tree) (c .before .before .before .before .before .before .before .before .before .before .before .before .before .before .loop .parts) (length (c .before .before .before .before .before .before .before .before .before .before .before .before .before .before .loop .out)) (c .before .before .before .before .state .given .0 .0) (c .before .before .before .before .state .given .0 .1 .0) (sym (ap steppedSays (c .before .before .before .before .state .given .1)) ∙ c .before .before .before .before .before .before .before .before .before .step .ensures .says)))
-
-returns-3 : tie.Need-returns-3 Inv-loop μ-loop
-returns-3 c = search needs
-
 pub count-spec : {M : Type 1} → statement M
 count-spec =
     tie.close
@@ -113,6 +139,8 @@ count-spec =
     slice-aggregate-feeds
     feeds-requires
     wrapping-add-u64-requires
+    loop-less
+    loop-again
     enum-told
     slice-aggregate-tally
     tally-requires
@@ -122,8 +150,4 @@ count-spec =
     slice-aggregate-tally-2
     tally-requires-2
     refused-requires
-    returns-2
-    sub-left
-    loop-less
-    loop-again
-    returns-3)
+    returns-2)

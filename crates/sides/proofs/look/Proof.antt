@@ -22,11 +22,11 @@ hook-rows-requires c κs =
 
 all-reached-requires : tie.Need-all-reached-requires
 all-reached-requires c κs =
-    (said-rowed (c .before .before .before .before .before .before .before .before .args .n) (c .before .before .before .before .before .before .before .before .args .t .now) (sym (c .before .before .before .before .before .before .check-rows .ensures) ∙ ap checkSays (c .before .before .before .before .enum-told .given .1)), c .before .before .hook-rows .ensures, c .before .before .before .before .before .before .before .before .pre .1)
+    (said-rowed (c .before .before .before .before .before .before .before .before .args .n) (c .before .before .before .before .before .before .before .before .args .t .now) (sym (c .before .before .before .before .before .before .check-rows .ensures) ∙ ap checkSays (c .before .before .before .before .enum-told .given .1)), c .before .before .hook-rows .ensures .near, c .before .before .before .before .before .before .before .before .pre .1)
 
 returns : tie.Need-returns
 returns c =
-    found-tree (c .before .before .before .before .before .before .before .before .before .before .args .n) (c .before .before .before .before .before .before .before .before .before .before .args .t .now) _ _ _ (sym (c .before .before .before .before .before .before .before .before .check-rows .ensures) ∙ ap checkSays (c .before .before .before .before .before .before .enum-told .given .1)) (sym (c .before .all-reached .ensures .0) ∙ c .if1 .taken) refl (c .before .before .before .before .hook-rows .ensures) (c .before .all-reached .ensures .1)
+    found-tree (c .before .before .before .before .before .before .before .before .before .before .args .n) (c .before .before .before .before .before .before .before .before .before .before .args .t .now) _ _ _ (sym (c .before .before .before .before .before .before .before .before .check-rows .ensures) ∙ ap checkSays (c .before .before .before .before .before .before .enum-told .given .1)) (sym (c .before .all-reached .ensures .0) ∙ c .if1 .taken) refl (c .before .before .before .before .hook-rows .ensures .near) (c .before .all-reached .ensures .1)
 
 returns-2 : tie.Need-returns-2
 returns-2 c =
