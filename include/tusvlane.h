@@ -239,9 +239,9 @@ tusvlane_state tusvlane_start(void);
  * order:
  * - 13 at 0 when the job is longer than 65,535 bytes;
  * - with the state's offset as the place: 1 when its number of taxa is above
- *   64, or below 4 and its offset not 0; 11 when the table or the list is too
- *   short for its taxa or its partitions; 12 when its offset is from 1 to 3,
- *   or its number of moves above 65,535;
+ *   64, or below 4 and its offset not 0; 11 when the list is too short for its
+ *   partitions, or, its offset being above 4, the table for its taxa; 12 when
+ *   its offset is from 1 to 3, or its number of moves above 65,535;
  * - when the offset is the job's length or more: 12 at the job's length where
  *   the state has no partition;
  * - 16 when a taxon is in none of the partitions that are held. It is looked
@@ -254,7 +254,8 @@ tusvlane_state tusvlane_start(void);
  *   partition where the state has none; otherwise a move, or a partition where
  *   the state has no moves and fewer than 64 partitions. Any other tag is 12.
  *   A move is judged as tusvlane_list_move judges it, on what is held;
- * - 11 when a partition or the lines do not fit.
+ * - 11 at the offset when the table that was read, a partition or the lines do
+ *   not fit.
  * After n and after the table the next state has no partitions and no moves.
  */
 tusvlane_stepped tusvlane_step(const uint8_t *job, size_t job_bytes,

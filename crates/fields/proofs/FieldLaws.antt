@@ -13,6 +13,7 @@ use lib.Seq.{take-suc, getD-drop}
 use mir.Syntax.{w8}
 use mir.Val.{Fits}
 use borrow.Author.Tests.{eq-eqb, ne-eqb, le-leb, lt-leb, leb-true}
+use Rattle.taxa.specs.Most.{mostPartitions}
 use Rattle.taxa.specs.Sets.{pick}
 use Rattle.taxa.proofs.Bools.{bool-eq, and-false-r}
 use Rattle.fields.specs.Fields.{statedAt, headed, complete, highFirst, numberIn, allowed}
@@ -50,7 +51,7 @@ module _ (at parts moves tag : ℕ) where
         unfolding allowed
         no-tag h e = rw (ne-eqb at 0 a, ne-eqb at 4 b, ne-eqb parts 0 c, ne-eqb tag 4 d, eq-eqb moves 0 h, ne-eqb tag 3 e)
 
-        pub more-parts : moves ≡ 0 → tag ≡ 3 → ltb parts 64 ≡ allowed at parts moves tag
+        pub more-parts : moves ≡ 0 → tag ≡ 3 → ltb parts mostPartitions ≡ allowed at parts moves tag
         unfolding allowed
         more-parts h e = rw (ne-eqb at 0 a, ne-eqb at 4 b, ne-eqb parts 0 c, ne-eqb tag 4 d, eq-eqb moves 0 h, eq-eqb tag 3 e)
 

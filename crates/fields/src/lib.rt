@@ -30,7 +30,7 @@ pub fn allowed(at: usize, parts: usize, moves: u64, tag: u8) -> bool
     if tag != 3 {
         return false;
     }
-    parts < 64
+    parts < taxa::PARTITIONS
 }
 
 // The stated length of the field at an offset.

@@ -24,13 +24,11 @@ use table::Refusal;
 // The most bytes in a job.
 const LONGEST: usize = 65535;
 
-// Memory with room for any job: bytes for the table, numbers for the
-// partitions, bytes for one move's lines. That they are enough is the law
-// room-enough in proofs/GoingLaws.antt, and that no job is then refused for
-// room is going-field there.
+// Room for any job: bytes for the table and bytes for one move's lines. That
+// with taxa::PARTITIONS numbers they are enough is the law room-enough in
+// proofs/GoingLaws.antt, and that no job is then refused for room is the law
+// going-field there.
 pub const TABLE: usize = 250;
-
-pub const PARTITIONS: usize = 64;
 
 pub const LINES: usize = 8192;
 
@@ -376,10 +374,11 @@ fn memory_right(s: State, table: &[u8], parts: &[u64]) -> bool
     requires { ⌜ s .taxa ≤ most ⌝ }
     ensures { λ r. ⌜ r ≡ holds s (lending (now (table .entry)) (now (parts .entry)) []) ⌝ }
 {
+    let at = s.at;
     if parts.len() < s.parts {
         return false;
     }
-    if s.at <= 4 {
+    if at <= 4 {
         return true;
     }
     table_bytes(s.taxa) <= table.len()

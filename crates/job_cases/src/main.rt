@@ -98,7 +98,7 @@ fn tally(lines: u64, out: &[u8], wrote: usize)
 // last move's, since a long job has thousands.
 fn count(input: &[u8]) {
     let mut tree = [0u8; job::TABLE];
-    let mut parts = [0u64; job::PARTITIONS];
+    let mut parts = [0u64; taxa::PARTITIONS];
     let mut out = [0u8; job::LINES];
     let mut s = job::start();
     let mut lines: u64 = 0;

@@ -21,9 +21,6 @@ use fits::Move;
 use table::Checked;
 use table::Refusal;
 
-// The most partitions on a list.
-pub const PARTITIONS: usize = 64;
-
 // The answer of a move alone.
 pub enum Moved {
     Done,
@@ -174,7 +171,7 @@ fn count_right(count: usize) -> bool
     if count == 0 {
         return false;
     }
-    count <= PARTITIONS
+    count <= taxa::PARTITIONS
 }
 
 // Whether each of the n taxa is in y.
@@ -199,10 +196,10 @@ fn union_fits(n: usize, all: u64) -> Fitted
     requires { ⌜ (4 ≤ n) × (n ≤ most) ⌝ }
     ensures { λ r. ⌜ fittedSays r ≡ unionSaid n all ⌝ }
 {
-    if !covers(n, all) {
-        return Fitted::Refused(Refusal::Unseen);
+    if covers(n, all) {
+        return Fitted::Fits;
     }
-    Fitted::Fits
+    Fitted::Refused(Refusal::Unseen)
 }
 
 // What two tests in order find: the first refusal.

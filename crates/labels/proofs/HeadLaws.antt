@@ -12,6 +12,7 @@ use lib.ListN.{length, getD, drop, drop-of-length-le}
 use lib.Pow.{pow-pos, pow-mono, pow-add}
 use lib.Seq.{drop-cons}
 use borrow.Author.Tests.{lt-ltb, le-ltb, ltb-true, le-leb, lt-leb, leb-true, ltb-false}
+use Rattle.taxa.specs.Most.{most}
 use Rattle.taxa.specs.Sets.{has, some, lowest}
 use Rattle.taxa.proofs.Bools.{either, and-left, and-right, and-false-r, and-both, or-left, or-cases, or-neither}
 use Rattle.taxa.proofs.Sets.{has-below, has-mod, some-zero, some-has, some-lowest}
@@ -81,12 +82,12 @@ module _ (s : List ℕ) (at : ℕ) where
           rw (drop-cons s at 0 (ltb-true at (length s) l)) (byte l (either (digit (getD s at 0))))
       go (inr l) = rw (drop-of-length-le s (ltb-false at (length s) l)) tt
 
--- ---- no taxon is 64 or more
-pub has-not : (u d : ℕ) → u < 2 ^ 64 → 64 ≤ d → false ≡ has u d
+-- ---- no taxon is the most or above
+pub has-not : (u d : ℕ) → u < 2 ^ most → most ≤ d → false ≡ has u d
 has-not u d l h = go (either (has u d))
   where
     go : (has u d ≡ true) ⊎ (has u d ≡ false) → false ≡ has u d
-    go (inl m) = absurd (omega (arith, has-below 64 u d l m))
+    go (inl m) = absurd (omega (arith, has-below most u d l m))
     go (inr m) = sym m
 
 -- ---- the taxa that begin with a digit
@@ -120,9 +121,9 @@ module _ (u a : ℕ) where
   begun-zero h e =
       sym (begun-more h ∙ ap (λ (p : Bool). p && some (seconds u a)) (le-ltb 0 a (omega arith)))
 
-  pub begun-high : u < 2 ^ 64 → has u a ≡ false → 6 < a → false ≡ begun u a
+  pub begun-high : u < 2 ^ most → has u a ≡ false → 6 < a → false ≡ begun u a
   begun-high l h k =
-      let z : u / 2 ^ (10 * a) ≡ 0 = div-eq-of-lt (lt-of-lt-of-le l (pow-mono {i = 64} (omega arith))) in
+      let z : u / 2 ^ (10 * a) ≡ 0 = div-eq-of-lt (lt-of-lt-of-le l (pow-mono {i = most} (omega arith))) in
       sym (begun-more h
       ∙ ap (λ (p : Bool). ltb 0 a && p) (ap some (ap (λ (x : ℕ). x % 2 ^ 10) z) ∙ some-zero)
       ∙ and-false-r (ltb 0 a))

@@ -10,6 +10,7 @@ use lib.Dec.{ltb}
 use lib.ListN.{length, take, drop, getD, take-append-drop}
 use lib.Seq.{drop-cons, take-all}
 use borrow.Author.Tests.{ltb-true, ltb-false}
+use Rattle.taxa.specs.Most.{most}
 use Rattle.taxa.specs.Sets.{has}
 use Rattle.taxa.proofs.Bools.{either}
 use Rattle.taxa.proofs.Sets.{has-below}
@@ -43,10 +44,10 @@ module _ (s : List ℕ) (at u : ℕ) where
   not-whole p h d w m t e =
       h (drop (suc p) s) d w m t (take-append-drop (suc p) s ∙ e)
 
-  module _ (small : u < 2 ^ 64) (here : at < length s) where
+  module _ (small : u < 2 ^ most) (here : at < length s) where
     label-spelt : (d : ℕ) (w : List ℕ) → has u d ≡ true
         → Spelt d w (decimal d ++ w)
-    label-spelt d w m = spelt d w (omega (arith, has-below 64 u d small m))
+    label-spelt d w m = spelt d w (omega (arith, has-below most u d small m))
 
     -- the label by its first byte
     from-place : (x : List ℕ) (d : ℕ) (w : List ℕ) → has u d ≡ true
@@ -84,7 +85,7 @@ module _ (s : List ℕ) (at u : ℕ) where
             digit-goes-on d x l (rw b at (stop x))
         go x d w m (double l e) =
             let b : getD s at 0 ≡ 48 + d / 10 = cc in
-            digit-goes-on (d / 10) x (omega (arith, has-below 64 u d small m)) (rw b at (stop x))
+            digit-goes-on (d / 10) x (omega (arith, has-below most u d small m)) (rw b at (stop x))
 
     module _ (a : ℕ) (is : a ≡ valueAt s at) (low : a < 10) where
       byte : getD s at 0 ≡ 48 + a

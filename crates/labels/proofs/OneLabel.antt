@@ -9,6 +9,7 @@ use lib.Dec.{ltb}
 use lib.ListN.{length, take, drop, take-append-drop, length-drop}
 use lib.Seq.{take-add}
 use borrow.Author.Tests.{ltb-true, ltb-false}
+use Rattle.taxa.specs.Most.{most}
 use Rattle.taxa.specs.Sets.{has}
 use Rattle.taxa.proofs.Bools.{either}
 use Rattle.taxa.proofs.Sets.{has-below}
@@ -25,9 +26,9 @@ module _ (s : List ℕ) (at u : ℕ) where
   parts d p f = sym (take-append-drop p s) ∙ f .is (drop p s)
 
   -- ---- two labels
-  module _ (small : u < 2 ^ 64) where
+  module _ (small : u < 2 ^ most) where
     below : (d p : ℕ) → Found s at u d p → d < 100
-    below d p f = omega (arith, has-below 64 u d small (f .among))
+    below d p f = omega (arith, has-below most u d small (f .among))
 
     found-same : (d p e q : ℕ) → Found s at u d p → Found s at u e q
         → (d ≡ e) × (p ≡ q)
@@ -81,7 +82,7 @@ module _ (s : List ℕ) (at u : ℕ) where
       go (inr a) (inr b) = omega (arith, ltb-false p q a, ltb-false q p b)
 
 -- one answer
-pub label-one : (s : List ℕ) (at u : ℕ) → u < 2 ^ 64 → (a b : Label)
+pub label-one : (s : List ℕ) (at u : ℕ) → u < 2 ^ most → (a b : Label)
     → LabelIs s at u a → LabelIs s at u b → a ≡ b
 label-one s at u small (Taxon d p) (Taxon e q) f g =
     let same = found-same s at u small d p e q f g in

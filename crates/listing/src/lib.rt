@@ -174,7 +174,7 @@ fn list_fit(
     requires { ⌜ (Fit n (now t) (now near) (now s) (moveOf m)) × (Pass (partitionsChecks n (now ys))) ⌝ }
     ensures { λ r. ⌜ Lists n (now (t .entry)) (now (ys .entry)) (moveOf m) number (now (out .entry)) place r (now (t .exit)) (now (out .exit)) ⌝ }
 {
-    let mut ds = [0u64; judge::PARTITIONS];
+    let mut ds = [0u64; taxa::PARTITIONS];
     let same = judge::judge_groups(n, t, near, s, ys, m, &mut ds);
     let found = &ds[..ys.len()];
     let saved = saved_of(ys, found);

@@ -8,6 +8,7 @@ use native.Mathlib.Omega.{arith}
 use lib.Arith.{lt-of-le-ne}
 use lib.Dec.{eqb, ltb}
 use borrow.Author.Tests.{lt-ltb, ltb-true, ltb-false, eq-eqb, eqb-true, eqb-false}
+use Rattle.taxa.specs.Most.{most}
 use Rattle.taxa.specs.Sets.{tally, pick, has, add, less, full, size}
 use Rattle.taxa.proofs.Sets.{has-add, has-less, has-ones, has-none}
 use Rattle.taxa.proofs.Sizes.{size-none}
@@ -56,7 +57,7 @@ module _ (n u m : ℕ) (o : Bool) where
       go true e = ltb-true x n e
       go false e = absurd (omega (arith, p, rw e at (f .once x)))
 
-  pub below : (t : Member) → n ≤ 64 → Fits n u m o t → Below 100 t
+  pub below : (t : Member) → n ≤ most → Fits n u m o t → Below 100 t
   below t few f x p = omega (arith, few, below-n t f x p)
 
   pub marked : (t : Member) → Fits n u m o t → (x : ℕ)

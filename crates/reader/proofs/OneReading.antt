@@ -10,6 +10,7 @@ use lib.Dec.{ltb}
 use lib.ListN.{length, take, drop, take-append-drop}
 use lib.Seq.{take-take}
 use borrow.Author.Tests.{ltb-true, ltb-false}
+use Rattle.taxa.specs.Most.{most}
 use Rattle.tree.specs.Tree.{rows, Valid}
 use Rattle.tree.specs.Refusals.{Accepted}
 use Rattle.table.specs.Says.{numberOf}
@@ -37,13 +38,14 @@ both a b i j u v h k p q e =
     (over-stop a (i ∷ u) (stop-at i u p)) (stop-at j v q) e in
     (w .0, head-is (w .1), tail-is (w .1))
 
-module _ (n : ℕ) (few : n ≤ 64) where
+module _ (n : ℕ) (few : n ≤ most) where
   low : (t : Member) (o : Outermost) → EachOnce n o
       → ((x : ℕ) → times x t ≤ timesIn x o) → Below 100 t
   low t o h k x p = omega
       (arith, few, low-some n x (times x t) p (omega (arith, h x, k x)))
 
-  one-tree : (o q : Outermost) → EachOnce n o → EachOnce n q → whole o ≡ whole q
+  -- a text is that of one tree at most
+  pub one-tree : (o q : Outermost) → EachOnce n o → EachOnce n q → whole o ≡ whole q
       → o ≡ q
   unfolding whole timesIn
   one-tree (two a b) (two c d) h k e =

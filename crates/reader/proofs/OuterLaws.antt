@@ -10,6 +10,7 @@ use lib.Dec.{eqb}
 use lib.ListN.{length, take}
 use lib.Seq.{take-all}
 use borrow.Author.Tests.{eqb-true, eqb-false}
+use Rattle.taxa.specs.Most.{most}
 use Rattle.taxa.specs.Sets.{tally, has, size}
 use Rattle.taxa.proofs.Sets.{has-none}
 use Rattle.taxa.proofs.Sizes.{size-none}
@@ -87,7 +88,7 @@ second-stop : (n : ℕ) (a b : Member) (x : List ℕ) → AfterSecond n a b x �
 second-stop n a b x (of-two h e) = rw e (stop-at closes _ refl)
 second-stop n a b x (of-three c h e) = rw e (stop-at comma _ refl)
 
-module _ (n : ℕ) (few : n ≤ 64) (s : List ℕ) where
+module _ (n : ℕ) (few : n ≤ most) (s : List ℕ) where
   -- ---- the first byte
   pub no-open : 4 ≤ n → here s 0 opens ≡ false → NoTree n s 0
   unfolding whole groups

@@ -9,6 +9,7 @@ use native.Mathlib.Omega.{arith}
 use lib.ListN.{length, take, drop, getD, take-append-drop}
 use lib.Seq.{drop-cons}
 use borrow.Author.Tests.{eq-eqb}
+use Rattle.taxa.specs.Most.{most}
 use Rattle.taxa.specs.Sets.{has, size}
 use Rattle.text.specs.Lines.{decimal}
 use Rattle.labels.specs.Labels.{Stop, Found, Missed}
@@ -19,7 +20,7 @@ use Rattle.reader.specs.Slots.{mark, Fits, allowed, Over, Onward, Slot, 
 use Rattle.reader.proofs.Members.{below, mark-within, mark-size, fits-left, fits-right, fits-group, allowed-fits, fits-allowed, fill, head-is, tail-is, label-first, over-stop, stop-at, next-stop, next-at, settled, text-some}
 use Rattle.reader.proofs.Places.{Agrees, byte, ended, as-tree, stuck, expect, here-in, here-step, over-agrees, from-on}
 
-module _ (n : ℕ) (few : n ≤ 64) (s : List ℕ) (at u m : ℕ) (o : Bool) (S : Slot n s at u m o) where
+module _ (n : ℕ) (few : n ≤ most) (s : List ℕ) (at u m : ℕ) (o : Bool) (S : Slot n s at u m o) where
   low : (t : Member) → Fits n u m o t → Below 100 t
   low t f = below n u m o t few f
 

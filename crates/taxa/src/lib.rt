@@ -8,6 +8,9 @@ ghost use Rattle.taxa.specs.Sets as sets;
 // The largest number of taxa.
 pub const MOST: usize = 64;
 
+// The largest number of partitions on a list.
+pub const PARTITIONS: usize = 64;
+
 // Whether taxon i is in s.
 pub fn has(s: u64, i: usize) -> bool
     requires { ⌜ i < most ⌝ }

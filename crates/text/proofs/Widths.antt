@@ -11,6 +11,7 @@ use native.Mathlib.Omega.{arith, pow-step}
 use lib.ListN.{length, length-append}
 use lib.Dec.{eqb, ltb, leb}
 use borrow.Author.Tests.{lt-ltb, le-ltb, ltb-true, ltb-false, le-leb, lt-leb, eq-eqb, ne-eqb, eqb-true, eqb-false}
+use Rattle.taxa.specs.Most.{mostPartitions}
 use Rattle.taxa.specs.Sets.{pick}
 use Rattle.taxa.proofs.Bools.{either}
 use Rattle.io.specs.Digits.{digits, glyph, Fewest}
@@ -100,8 +101,8 @@ bin-few (suc f) i s k = go (leb (10 * s) (i * k)) (bin-few f (suc i) s k)
     go true h = omega arith
     go false h = omega (arith, h)
 
-pub bin-fits : (i k : ℕ) → i < 10 → k ≤ 64 → i * k ≤ 640
-bin-fits i k l h = omega (arith, mul-le-mul {n₁ = i} {m₁ = k} {n₂ = 10} {m₂ = 64} (omega arith) h)
+pub bin-fits : (i k : ℕ) → i < 10 → k ≤ mostPartitions → i * k ≤ 10 * mostPartitions
+bin-fits i k l h = omega (arith, mul-le-mul {n₁ = i} {m₁ = k} {n₂ = 10} {m₂ = mostPartitions} (omega arith) h)
 
 module _ (s k : ℕ) where
   pub bin-here : (i : ℕ) → i < 10 → 10 * s ≤ i * k → i ≡ binFrom (10 - i) i s k

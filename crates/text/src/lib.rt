@@ -3,6 +3,7 @@
 ghost use Prim.Native.Nat.{_+_, _≤_};
 ghost use mathlib.Core.Path.{_≡_};
 ghost use lib.ListN.{length};
+ghost use Rattle.taxa.specs.Most.{mostPartitions};
 ghost use Rattle.text.specs.Lines.{decimal, bin, className, verdictLine, savedLine, endLine, refusedLine, putFirst, placed};
 
 // How many digits n has.
@@ -45,7 +46,7 @@ fn then_word(w: &[u8], out: &mut [u8], at: usize) -> usize
 
 // The smallest i with 10 s at most i times k, or 10.
 fn class_bin(s: u64, k: u64) -> u64
-    requires { ⌜ (s ≤ 64) × (k ≤ 64) ⌝ }
+    requires { ⌜ (s ≤ mostPartitions) × (k ≤ mostPartitions) ⌝ }
     ensures { λ r. ⌜ r ≡ bin s k ⌝ }
 {
     let mut i: u64 = 1;
@@ -61,7 +62,7 @@ fn class_bin(s: u64, k: u64) -> u64
 // Writes the terrace class of s of k partitions from place at on; where it
 // ends.
 fn then_class(s: u64, k: u64, out: &mut [u8], at: usize) -> usize
-    requires { ⌜ (s ≤ 64) × (k ≤ 64) × (at + length (className s k) ≤ length (now out)) ⌝ }
+    requires { ⌜ (s ≤ mostPartitions) × (k ≤ mostPartitions) × (at + length (className s k) ≤ length (now out)) ⌝ }
     ensures { λ r. ⌜ (r ≡ at + length (className s k)) × (now (out .exit) ≡ placed (now (out .entry)) at (className s k)) ⌝ }
 {
     if s == 0 {
@@ -95,7 +96,7 @@ pub fn verdict_line(m: u64, p: u64, d: u64, out: &mut [u8]) -> usize
 // Writes the line of a move: `m saved s t`, t being the class of same of k
 // partitions; how many bytes.
 pub fn saved_line(m: u64, s: u64, same: u64, k: u64, out: &mut [u8]) -> usize
-    requires { ⌜ (same ≤ 64) × (k ≤ 64) × (length (savedLine m s same k) ≤ length (now out)) ⌝ }
+    requires { ⌜ (same ≤ mostPartitions) × (k ≤ mostPartitions) × (length (savedLine m s same k) ≤ length (now out)) ⌝ }
     ensures { λ r. ⌜ (r ≡ length (savedLine m s same k)) × (now (out .exit) ≡ putFirst (savedLine m s same k) (now (out .entry))) ⌝ }
 {
     let a = number(m, out);
@@ -141,7 +142,7 @@ pub fn verdict_width(m: u64, p: u64, d: u64) -> usize
 
 // How many bytes the terrace class of s of k partitions has.
 fn class_width(s: u64, k: u64) -> usize
-    requires { ⌜ (s ≤ 64) × (k ≤ 64) ⌝ }
+    requires { ⌜ (s ≤ mostPartitions) × (k ≤ mostPartitions) ⌝ }
     ensures { λ r. ⌜ r ≡ length (className s k) ⌝ }
 {
     if s == 0 {
@@ -155,7 +156,7 @@ fn class_width(s: u64, k: u64) -> usize
 
 // How many bytes saved_line writes; few, so that a caller can add them.
 pub fn saved_width(m: u64, s: u64, same: u64, k: u64) -> usize
-    requires { ⌜ (same ≤ 64) × (k ≤ 64) ⌝ }
+    requires { ⌜ (same ≤ mostPartitions) × (k ≤ mostPartitions) ⌝ }
     ensures { λ r. ⌜ (r ≡ length (savedLine m s same k)) × (r ≤ 60) ⌝ }
 {
     width(m) + 7 + width(s) + 1 + class_width(same, k) + 1

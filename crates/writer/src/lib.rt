@@ -33,7 +33,7 @@ pub fn refused(why: Refusal, place: usize) -> bool {
 // but the last goes on in it, so that no step is one too many.
 pub fn list(input: &[u8]) -> bool {
     let mut tree = [0u8; job::TABLE];
-    let mut parts = [0u64; job::PARTITIONS];
+    let mut parts = [0u64; taxa::PARTITIONS];
     let mut out = [0u8; job::LINES];
     let mut s = job::start();
     loop {

@@ -11,20 +11,20 @@ returns c =
 
 returns-2 : tie.Need-returns-2
 returns-2 c =
-    let at-if1 = c .before .before in
+    let at-if1 = c .before in
     let st = at-if1 .before .before .before .before in
     let a = st .args in
     no-table (a .s) (a .table .now) (a .parts .now) (at-if1 .if1 .left) (c .if2 .taken)
 
 table-bytes-requires : tie.Need-table-bytes-requires
 table-bytes-requires c κs =
-    let st = c .before .before .before .before .before .before in
+    let st = c .before .before .before .before .before in
     st .pre
 
 returns-3 : tie.Need-returns-3
 returns-3 c =
     let at-if2 = c .before in
-    let at-if1 = at-if2 .before .before in
+    let at-if1 = at-if2 .before in
     let st = at-if1 .before .before .before .before in
     let a = st .args in
     some-table (a .s) (a .table .now) (a .parts .now) (at-if1 .if1 .left) (at-if2 .if2 .left)

@@ -1,6 +1,7 @@
 -- `reader::free_taxa` meets its contract. Assumes nothing.
 use mathlib.Core.Path.{ap, _∙_}
 use native.Mathlib.Omega.{arith}
+use Rattle.taxa.specs.Most.{most}
 use Rattle.taxa.specs.Sets.{less}
 use Rattle.taxa.proofs.Sizes.{size-le}
 use Rattle.reader.proofs.StageLaws.{free-more, free-last, free-none}
@@ -23,7 +24,7 @@ size-requires c κs = search needs
 
 add-if2 : tie.Need-add-if2
 add-if2 c =
-    let h = size-le 64 (c .before .before .before .before .args .used) in let e = c .size .ensures in search needs
+    let h = size-le most (c .before .before .before .before .args .used) in let e = c .size .ensures in search needs
 
 returns-2 : tie.Need-returns-2
 returns-2 c =
