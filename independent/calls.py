@@ -462,6 +462,114 @@ def unseen_step(pick):
                 table=table, partitions=held + more)
 
 
+# Steps with a table lent too short, or just long enough.
+
+def wanted_bytes(n):
+    """How many bytes the table of n taxa has; for fewer than two, none."""
+    return max(2 * tusvlane.row_count(n), 0)
+
+
+def table_room(pick, wanted):
+    """How many bytes are lent for a table of so many: too few, none, exactly enough, more."""
+    fewer = pick.choice([wanted - 1, wanted - 1, wanted - 2, wanted // 2, 1, 0, 0,
+                         pick.randrange(wanted + 1), pick.randrange(wanted + 1)])
+    enough = pick.choice([wanted, wanted, wanted + 1, wanted + pick.randrange(30), 250])
+    return max(pick.choice([fewer, fewer, enough]), 0)
+
+
+def right_table(pick, n, room):
+    """The field of a tree."""
+    return jobs.table_field(making.make_tree(pick, n))
+
+
+def other_tag(pick, n, room):
+    """The field of a tree under another tag, or a field of another kind."""
+    whole = right_table(pick, n, room)
+    other = bytes([pick.choice([0, 1, 3, 4, 5, 255])]) + whole[1:]
+    return pick.choice([other, other, jobs.count_field(n),
+                        jobs.partition_field(making.make_partition(pick, n)),
+                        jobs.move_field(making.wild_move(pick, n))])
+
+
+def other_length(pick, n, room):
+    """Another stated length, often that of the lent table; the content that long or not."""
+    table = making.make_tree(pick, n)
+    right = len(table)
+    stated = pick.choice([room, room, right - 4, right - 1, right + 1, right + 4, 0, right ^ 256,
+                          65535, pick.randrange(65536)])
+    if stated == right:
+        return jobs.table_field(making.make_tree(pick, pick.choice([max(n - 1, 4), n + 1])))
+    content = pick.choice([table, table[:stated], table + bytes(max(min(stated, 999) - right, 0))])
+    return jobs.field(tusvlane.TAG_TABLE, content, stated)
+
+
+def no_tree(pick, n, room):
+    """A table that is refused with 3, 4 or 5, each as likely."""
+    return jobs.table_field(making.refused_table(pick, n, pick.randint(3, 5)))
+
+
+TABLE_FIELDS = [right_table] * 4 + [other_tag] + [other_length] * 2 + [no_tree] * 5
+
+
+def table_and_rest(pick, n, room):
+    """The field at offset 4 and what follows it, or the field cut short.
+
+    It is cut in its length, where the lent table ends, or anywhere."""
+    whole = pick.choice(TABLE_FIELDS)(pick, n, room)
+    if chance(pick, 25):
+        last = len(whole) - 1
+        return whole[:min(pick.choice([0, 0, 1, 2, 2, 3, 3 + room, last, last,
+                                       pick.randint(1, last)]), last)]
+    partition = jobs.partition_field(making.make_partition(pick, n))
+    return whole + pick.choice([b"", partition, partition, b"\3", some_bytes(pick, 20)])
+
+
+def table_field_step(pick):
+    """A step at offset 4: the table is right or not, and fits or not."""
+    n = making.make_count(pick)
+    room = table_room(pick, wanted_bytes(n))
+    job = jobs.count_field(n) + table_and_rest(pick, n, room)
+    partitions = making.make_partitions(pick, n)
+    held = pick.choice([0] * 6 + [1, len(partitions), len(partitions), len(partitions) + 1])
+    moves = pick.choice([0] * 8 + [1, 65535, 65536])
+    return Call("step", first=job, state=(4, n, held, moves), table=some_bytes(pick, room),
+                partitions=partitions)
+
+
+def count_field_step(pick):
+    """A step at offset 0, now and then 1 to 3, where no table is held or read."""
+    n = making.make_count(pick)
+    taxa = pick.choice([0, n, n, n, n, 64, 64, pick.randrange(65), 65])
+    room = table_room(pick, wanted_bytes(pick.choice([n, taxa, taxa])))
+    field = jobs.count_field(pick.choice([n] * 6 + [0, 3, 65, 255]))
+    field = pick.choice([field] * 6 + [b"\2" + field[1:], field[:pick.randrange(4)]])
+    if len(field) == 4:
+        field += table_and_rest(pick, n, room)
+    at = pick.choice([0] * 8 + [1, 2, 3])
+    partitions = making.make_partitions(pick, n)
+    held = pick.choice([0, 0, 0, len(partitions), len(partitions) + 1])
+    return Call("step", first=field, state=(at, taxa, held, 0), table=some_bytes(pick, room),
+                partitions=partitions)
+
+
+def held_table_step(pick):
+    """A step from above offset 4 in most cases, the table it holds lent too short or not."""
+    job = pick.choice(jobs.WAYS)(pick)
+    known = walked(job, pick.choice([2, 2, 3, 3, 4, pick.randint(2, 20), len(job)]))
+    if chance(pick, 15):
+        job = job[:known.at + pick.choice([0, 0, -1, 1, 2])]
+    call = step_from(pick, job, known)
+    room = table_room(pick, wanted_bytes(known.taxa))
+    call.table = known.table[:room] + some_bytes(pick, room - min(len(known.table), room))
+    return call
+
+
+def table_step(pick):
+    """A step with a table lent too short or just long enough, most often at the table itself."""
+    make = pick.choice([table_field_step] * 5 + [count_field_step] * 2 + [held_table_step] * 2)
+    return make(pick)
+
+
 def lend_step_output(pick, call):
     """Lends output: enough, exactly enough for the lines, one too few, or none."""
     try:
@@ -535,8 +643,8 @@ def long_step(pick):
     job = pick.choice([jobs.too_long, jobs.too_long, jobs.as_long_as_allowed])(pick)
     at = pick.choice([0, 4, 65534, 65535, 65536])
     state = (at, pick.choice([0, 6, 6, 6, 70]), pick.choice([0, 0, 1, 64]), 0)
-    return Call("step", first=job, state=state, table=some_bytes(pick, 250),
-                partitions=[pick.choice([0, 31, 62, 63])] * 64)
+    return Call("step", first=job, state=state, partitions=[pick.choice([0, 31, 62, 63])] * 64,
+                table=some_bytes(pick, pick.choice([250, 250, 18, 17, 0])))
 
 
 def make_step(pick):
@@ -546,7 +654,8 @@ def make_step(pick):
     elif chance(pick, 5):
         call = many_held(pick)
     else:
-        call = pick.choice([any_step, any_step, move_step, move_step, unseen_step])(pick)
+        call = pick.choice([any_step] * 3 + [move_step] * 3 + [unseen_step] * 2
+                           + [table_step] * 3)(pick)
         for _ in range(pick.choice([0, 0, 0, 1, 1, 2])):
             pick.choice([other_state, other_memory])(pick, call)
     lend_step_output(pick, call)
@@ -555,7 +664,7 @@ def make_step(pick):
 
 MAKERS = ([make_check_tree] * 10 + [make_induced_splits] * 12 + [make_compare] * 12
           + [make_apply_move] * 14 + [make_judge_move] * 15 + [make_judge_one] * 10
-          + [make_list_move] * 20 + [make_start] + [make_step] * 20
+          + [make_list_move] * 20 + [make_start] + [make_step] * 30
           + [make_divided_list] * 8 + [make_divided_comparison] * 8)
 
 

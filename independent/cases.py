@@ -176,6 +176,77 @@ UNSEEN_STEPS = [
     ((43, 6, 65, 0), [0x0F] * 64 + [0x30], (0, 0)),
 ]
 
+# What stands in hex at offset 4 in the place of a right table, after the count 6, and the
+# refusal, whatever the length of the lent table.
+HEX_S = TREE_S.hex()
+TABLE_FAULTS = [
+    # Another tag; the tag alone; one byte of the length.
+    ("03 0012" + HEX_S, 12), ("01 0001 06", 12), ("00 0012" + HEX_S, 12), ("03", 12),
+    ("04 0004 01040305", 12), ("02", 12), ("02 00", 12),
+    # Another stated length, the content that long or not, or none of it there.
+    ("02 0011" + HEX_S[:34], 2), ("02 0011" + HEX_S, 2), ("02 0011", 2), ("02 0013" + HEX_S, 2),
+    ("02 0013" + HEX_S + "00", 2), ("02 0000", 2), ("02 0112" + HEX_S, 2), ("02 FFFF", 2),
+    # The table of a tree of 4 taxa, whole.
+    ("02 000A 0004 0104 0205 0305 0405", 2),
+    # Cut short: no content, all but one byte of it, and with a wrong row.
+    ("02 0012", 12), ("02 0012" + HEX_S[:34], 12), ("02 0012 06", 12), ("02 0012 0600", 12),
+    # The first row or the last with its ends exchanged, equal, or above 9.
+    ("02 0012 0600" + HEX_S[4:], 3), ("02 0012" + HEX_S[:32] + "0905", 3),
+    ("02 0012" + HEX_S[:32] + "0505", 3), ("02 0012" + HEX_S[:32] + "050A", 3),
+    # Taxon 4 at two rows and 5 at none; inner node 8 at four rows and 9 at two.
+    ("02 0012" + HEX_S[:32] + "0409", 4), ("02 0012" + HEX_S[:32] + "0508", 4),
+    # Taxa 0 and 1 joined to each other, the rest a graph of its own.
+    ("02 0012 0001 0206 0306 0607 0407 0708 0809 0809 0509", 5),
+    # The same before what may follow.
+    ("02 0012" + HEX_S[:32] + "0409 03 0008 000000000000003F", 4),
+]
+# For steps over the example job, which is 54 bytes long: the state, the number of partitions
+# lent, each of taxa 0 to 3, the length of the lent table, and the refusal and its place; 0 and 0
+# where there is none. The table is at 4, the partitions at 25 and 36, the move at 47.
+TABLE_STEPS = [
+    # The right table: it fits from 18 bytes on.
+    ((4, 6, 0, 0), 0, 0, (11, 4)), ((4, 6, 0, 0), 0, 1, (11, 4)), ((4, 6, 0, 0), 0, 16, (11, 4)),
+    ((4, 6, 0, 0), 0, 17, (11, 4)), ((4, 6, 0, 0), 0, 18, (0, 0)), ((4, 6, 0, 0), 0, 19, (0, 0)),
+    ((4, 6, 0, 0), 0, 250, (0, 0)), ((4, 6, 2, 7), 2, 17, (11, 4)), ((4, 6, 2, 7), 2, 18, (0, 0)),
+    # By the state's count the stated length is wrong; that comes before the room.
+    ((4, 4, 0, 0), 0, 0, (2, 4)), ((4, 7, 0, 0), 0, 18, (2, 4)), ((4, 64, 0, 0), 0, 0, (2, 4)),
+    # The state comes before the field: 1, a list too short, the number of moves.
+    ((4, 3, 0, 0), 0, 0, (1, 4)), ((4, 65, 1, 65536), 0, 0, (1, 4)),
+    ((4, 6, 1, 65536), 0, 0, (11, 4)), ((4, 6, 1, 65536), 0, 18, (11, 4)),
+    ((4, 6, 0, 65536), 0, 0, (12, 4)), ((4, 6, 0, 65535), 0, 0, (11, 4)),
+    # Within the count's field.
+    ((1, 6, 0, 0), 0, 0, (12, 1)), ((3, 64, 0, 0), 0, 17, (12, 3)), ((3, 3, 0, 0), 0, 0, (1, 3)),
+    ((2, 6, 1, 0), 0, 0, (11, 2)),
+    # At the count no table is held or written, whatever the state's taxa.
+    ((0, 0, 0, 0), 0, 0, (0, 0)), ((0, 6, 0, 0), 0, 0, (0, 0)), ((0, 64, 0, 0), 0, 249, (0, 0)),
+    ((0, 64, 1, 0), 0, 0, (11, 0)), ((0, 65, 0, 0), 0, 0, (1, 0)),
+    ((0, 6, 0, 65536), 0, 0, (12, 0)),
+    # Above 4 the room for the table is judged at once, after 1 and before 12.
+    ((5, 6, 0, 0), 0, 17, (11, 5)), ((5, 6, 0, 0), 0, 18, (12, 5)),
+    ((25, 6, 0, 0), 1, 17, (11, 25)), ((25, 6, 0, 0), 1, 0, (11, 25)),
+    ((25, 6, 0, 0), 1, 18, (0, 0)), ((25, 7, 0, 0), 1, 21, (11, 25)),
+    ((25, 7, 0, 0), 1, 22, (0, 0)),
+    ((25, 65, 0, 0), 1, 0, (1, 25)), ((25, 3, 0, 0), 1, 0, (1, 25)),
+    ((25, 6, 0, 65536), 1, 17, (11, 25)), ((25, 6, 0, 65536), 1, 18, (12, 25)),
+    # A move, where a taxon is unseen too; the job's end and beyond it.
+    ((47, 6, 1, 0), 1, 17, (11, 47)), ((47, 6, 1, 0), 1, 18, (16, 47)),
+    ((54, 6, 1, 1), 1, 17, (11, 54)), ((54, 6, 1, 1), 1, 18, (0, 0)),
+    ((60, 6, 1, 0), 1, 17, (11, 60)), ((60, 6, 1, 0), 1, 18, (16, 54)),
+    ((60, 6, 0, 0), 1, 17, (11, 60)), ((60, 6, 0, 0), 1, 18, (12, 54)),
+]
+# For steps over the first bytes of the example job, no table being lent: how many, the state,
+# and the refusal and its place. One partition is lent.
+SHORT_JOBS = [
+    # At the job's length or beyond it no table is read; with a partition the job ends.
+    (4, (4, 6, 0, 0), (12, 4)), (4, (4, 6, 1, 0), (0, 0)), (3, (4, 6, 0, 0), (12, 3)),
+    (3, (4, 6, 1, 0), (0, 0)), (0, (0, 6, 0, 0), (12, 0)), (0, (0, 6, 1, 0), (0, 0)),
+    (4, (5, 6, 1, 0), (11, 5)), (4, (5, 6, 0, 0), (11, 5)),
+    # The count cut short, then the table.
+    (3, (0, 6, 0, 0), (12, 0)), (4, (0, 6, 0, 0), (0, 0)), (5, (4, 6, 0, 0), (12, 4)),
+    (6, (4, 6, 0, 0), (12, 4)), (7, (4, 6, 0, 0), (12, 4)), (24, (4, 6, 0, 0), (12, 4)),
+    (25, (4, 6, 0, 0), (11, 4)),
+]
+
 # For a number of taxa and a text that is no tree, the place.
 NEWICK_PLACES = [
     (4, b"", 0), (4, b"(0,1,2", 5), (4, b"((((", 3), (4, b" (", 0),
@@ -302,6 +373,29 @@ def check_unseen():
     assert step_refusal(job, (36, 6, 1, 1), bytes(18), [0x0F]) == (3, 36)
 
 
+def check_table_room():
+    """A table lent too short: before the table it is judged last, after it at once."""
+    count = bytes.fromhex("01 0001 06")
+    for after, number in TABLE_FAULTS:
+        for room in (0, 1, 2, 16, 17, 18, 19, 250):
+            job = count + bytes.fromhex(after)
+            assert step_refusal(job, (4, 6, 0, 0), bytes(room), []) == (number, 4)
+            assert step_refusal(job, (4, 6, 1, 3), bytes(room), [0]) == (number, 4)
+    for state, lent, room, refusal in TABLE_STEPS:
+        table = TREE_S[:room] + bytes(max(room - len(TREE_S), 0))
+        assert step_refusal(EXAMPLE, state, table, [0x0F] * lent) == refusal
+    for length, state, refusal in SHORT_JOBS:
+        assert step_refusal(EXAMPLE[:length], state, b"", [0x0F]) == refusal
+    # What is known after the table, in room just enough, and after the count, with no room.
+    known, lines = tusvlane.step(EXAMPLE, (4, 6, 2, 7), bytes(18), [0x0F] * 2, 0)
+    assert (known.at, known.taxa, known.table, known.partitions, known.moves) == (
+        25, 6, TREE_S, [], 0)
+    assert lines == b""
+    known, lines = tusvlane.step(EXAMPLE, (0, 64, 2, 7), b"", [0x0F] * 2, 0)
+    assert (known.at, known.taxa, known.table, known.partitions, known.moves) == (4, 6, b"", [], 0)
+    assert lines == b""
+
+
 def check_sides():
     """The kept sides are those found by removing each row."""
     pick = random.Random(0)
@@ -337,4 +431,5 @@ def check():
     check_line()
     check_saved()
     check_unseen()
+    check_table_room()
     check_sides()

@@ -122,6 +122,17 @@ def wrong_table(pick, n, table):
     return bytes(pick.randrange(256) for _ in table)
 
 
+def refused_table(pick, n, number):
+    """A table of the right length that is refused with the number, which is from 3 to 5."""
+    while True:
+        table = wrong_table(pick, n, make_tree(pick, n))
+        try:
+            tusvlane.check_table(n, table)
+        except tusvlane.Refused as refused:
+            if refused.number == number:
+                return table
+
+
 # Partitions.
 
 def taxa_in(partition):

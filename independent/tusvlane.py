@@ -485,11 +485,13 @@ def placed_field(job, known, room):
 # One step over a job, from any state.
 
 def check_state(at, taxa, parts, moves, table_bytes, partition_count):
-    """Refuses a state that no job has, and one for which the lent memory is too short."""
+    """Refuses a state that no job has, and one for which the lent memory is too short.
+
+    A table is held above offset 4 alone; up to there none is wanted yet."""
     if not (at == 0 or taxa >= 4) or taxa > 64:
         raise Refused(1, at)
-    rows = row_count(taxa) if taxa >= 2 else 0
-    if 2 * rows > table_bytes or parts > partition_count:
+    held_bytes = 2 * row_count(taxa) if at > 4 else 0
+    if held_bytes > table_bytes or parts > partition_count:
         raise Refused(11, at)
     if not (at == 0 or at >= 4) or moves > 65535:
         raise Refused(12, at)
@@ -506,6 +508,6 @@ def step(job, state, table, partitions, out_bytes):
     if over(job, known):
         return None
     after, lines = placed_field(job, known, out_bytes)
-    if len(after.partitions) > len(partitions):
+    if len(after.table) > len(table) or len(after.partitions) > len(partitions):
         raise Refused(11, at)
     return after, lines
