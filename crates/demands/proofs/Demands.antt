@@ -5,29 +5,34 @@ use mathlib.Core.Logic.{_↔_}
 use mathlib.Core.Bool.{true}
 use mathlib.Core.List.{List, [], _++_}
 use Prim.Native.Nat.{ℕ, _+_, _*_, _^_, _≤_, _<_}
-use native.Mathlib.Omega.{arith}
 use lib.Dec.{ltb}
 use lib.ListN.{length}
+use Rattle.calls.specs.declared.Refusal.{Refusal}
+use Rattle.calls.specs.Calls.{Said, gives, refuses, refusesAt, Pass, done, on}
+use Rattle.calls.specs.Calls.{Given}
+use Rattle.calls.proofs.CallLaws.{call-one, call-settles, callBy-one}
+use Rattle.calls.proofs.CallLaws.{callBy-settles, call-zero, call-on, call-kept}
+use Rattle.calls.proofs.CallLaws.{call-refused, call-refusedAt}
+use Rattle.calls.proofs.NumberLaws.{code-told}
 use Rattle.taxa.specs.Sets.{pick, has, union, inSome, size, Sub}
 use Rattle.taxa.proofs.Unions.{has-union}
 use Rattle.tree.specs.Tree.{rows, Valid}
 use Rattle.tree.specs.Lists.{mem}
 use Rattle.tree.specs.Splits.{holdsLowest, splits, distBy, dist}
 use Rattle.tree.specs.Splits.{distancesBy, distances, unchanged, Gains}
-use Rattle.tree.specs.Refusals.{Said, gives, refuses, written, each, Pass}
-use Rattle.tree.specs.Refusals.{treeSaid, allSeen, roomChecks, Accepted}
+use Rattle.tree.specs.Refusals.{each, treeSaid, allSeen, roomChecks, Accepted}
 use Rattle.tree.proofs.Seen.{given-seen, seen-gains}
 use Rattle.tree.proofs.Monotone.{dist-lowest, distances-lowest, dist-mono}
 use Rattle.tree.proofs.FewTaxa.{few-same}
-use Rattle.table.specs.Says.{numberOf, checkSays}
+use Rattle.table.specs.Says.{checkSays}
 use Rattle.table.specs.declared.Checked.{Checked}
-use Rattle.table.specs.declared.Refusal.{Refusal}
-use Rattle.table.proofs.Numbers.{checked-one}
-use Rattle.splits.specs.Promises.{Induces, howMany, inducedSaid, compareSays}
-use Rattle.splits.specs.Promises.{comparedSaid}
+use Rattle.table.proofs.OneCheck.{checked-one}
+use Rattle.sides.specs.Promises.{Checks}
+use Rattle.splits.specs.Promises.{inducedSaid, inducedSays, Induces}
+use Rattle.splits.specs.Promises.{comparedSaid, compareSays, Compares}
 use Rattle.splits.specs.declared.Induced.{Induced}
 use Rattle.splits.specs.declared.Compared.{Compared}
-use Rattle.splits.proofs.SaidLaws.{induces-one, compared-one}
+use Rattle.splits.proofs.SaidLaws.{induced-one, compared-one}
 use Rattle.moves.specs.Moves.{Move, moved, moveChecks}
 use Rattle.moves.specs.Groups.{moveRule}
 use Rattle.moves.specs.Verdicts.{movedSaid, judgedSaid, judgedOneSaid}
@@ -36,364 +41,332 @@ use Rattle.moves.proofs.MoveDemands.{move-same-mono, move-unchanged-mono}
 use Rattle.moves.proofs.MoveDemands.{same-iff-splits}
 use Rattle.rules.specs.Each.{zeros}
 use Rattle.rules.proofs.Judging.{zeros-unchanged}
-use Rattle.judge.specs.Promises.{done, tableAfter, Applies, howManySame}
-use Rattle.judge.specs.Promises.{JudgesAll, JudgesOne}
+use Rattle.judge.specs.Promises.{moveSays, Applies, judgeSays, JudgesAll}
+use Rattle.judge.specs.Promises.{verdictSays, JudgesOne}
 use Rattle.judge.specs.declared.Moved.{Moved}
 use Rattle.judge.specs.declared.Judged.{Judged}
 use Rattle.judge.specs.declared.Verdict.{Verdict}
-use Rattle.judge.proofs.SaidLaws.{applies-one, judges-one, verdict-one}
+use Rattle.judge.proofs.SaidLaws.{moved-one, judged-one, verdict-one}
 use Rattle.text.specs.Lines.{savedLine}
 use Rattle.text.specs.Plain.{Plain}
-use Rattle.listing.specs.Listing as listing
 use Rattle.listing.specs.Saved.{savedOf, ofFourOrMore, howManyFewer}
-use Rattle.listing.specs.Listing.{verdictLines, moveLines, linesOf}
-use Rattle.listing.specs.Listing.{linesSaid}
-use Rattle.listing.specs.Listing.{placeAfter, Lists}
+use Rattle.listing.specs.Listing.{verdictLines, moveLines, linesOf, linesSaid}
+use Rattle.listing.specs.Listing.{linesSays, Page, placeAfter, Lists}
 use Rattle.listing.specs.declared.Lines.{Lines}
 use Rattle.listing.proofs.SavedLaws.{saved-unchanged, others-unchanged}
 use Rattle.listing.proofs.LineLaws.{lines-are}
-use Rattle.listing.proofs.ListsLaws.{lists-one}
-use Rattle.job.specs.Job.{Known, Outcome, next, over, stop}
+use Rattle.listing.proofs.ListsLaws.{lines-one}
+use Rattle.job.specs.Job.{Known, next}
 use Rattle.job.specs.Job as job
-use Rattle.job.specs.Steps.{Lent, lending, toldOf, lentThen}
+use Rattle.job.specs.Steps.{Lent, lending, toldOf, steppedSays}
 use Rattle.job.specs.Steps as steps
 use Rattle.job.specs.Runs.{first, run, Roomy}
 use Rattle.job.specs.Sound.{Going, Closes}
 use Rattle.job.specs.declared.State.{State}
 use Rattle.job.specs.declared.Stepped.{Stepped}
 use Rattle.job.proofs.PlainListing.{listing-plain}
-use Rattle.job.proofs.StateLaws.{gives-one}
+use Rattle.job.proofs.StateLaws.{stepped-one}
 use Rattle.job.proofs.Turns.{field-seen}
 use Rattle.job.proofs.StepForward.{step-forward}
 use Rattle.job.proofs.GoingLaws.{room-enough, going-field}
 use Rattle.job.proofs.RunLaws.{run-is-listing, listing-closes}
 use Rattle.grammar.specs.Newick.{IsTree}
-use Rattle.reader.specs.Promises as reader
-use Rattle.reader.specs.Promises.{Heard, refusesAt, Reads, told, planted}
-use Rattle.reader.specs.Promises.{Right, Plants}
+use Rattle.reader.specs.Promises.{Right, Reads, readingSays, Plants}
 use Rattle.reader.specs.declared.Reading.{Reading}
-use Rattle.reader.proofs.OneReading.{reads-one, plants-one, reads-valid, reads-iff}
+use Rattle.reader.proofs.OneReading.{reads-one, reading-one, reads-valid}
+use Rattle.reader.proofs.OneReading.{reads-iff}
 use Rattle.tusvlane.specs.Promises as c
-use Rattle.tusvlane.specs.Answers.{codeOf, answerOf, comparisonOf}
-use Rattle.tusvlane.specs.Numbers.{Given, Numbered, readSaid, stepSaid}
+use Rattle.tusvlane.specs.Numbers.{checkNumbers, inducedNumbers}
+use Rattle.tusvlane.specs.Numbers.{compareNumbers, applyNumbers}
+use Rattle.tusvlane.specs.Numbers.{verdictNumbers, judgeNumbers, readNumbers}
+use Rattle.tusvlane.specs.Numbers.{stepNumbers}
 use Rattle.tusvlane.specs.declared.Answer.{Answer}
 use Rattle.tusvlane.specs.declared.Comparison.{Comparison}
 use Rattle.tusvlane.specs.declared.Placed.{Placed}
 use Rattle.tusvlane.specs.declared.StepAnswer.{StepAnswer}
-use Rattle.tusvlane.proofs.NumberLaws.{zero-iff, kept-numbered, check-number}
-use Rattle.tusvlane.proofs.NumberLaws.{induced-number, compare-number}
-use Rattle.tusvlane.proofs.NumberLaws.{apply-number, verdict-number}
-use Rattle.tusvlane.proofs.NumberLaws.{judge-number, list-number, read-number}
-use Rattle.tusvlane.proofs.NumberLaws.{step-number}
-use Rattle.tusvlane.proofs.OneAnswer.{c-checked-one, c-induces-one}
-use Rattle.tusvlane.proofs.OneAnswer.{c-compared-one, c-applies-one}
-use Rattle.tusvlane.proofs.OneAnswer.{c-judges-one, c-verdict-one, c-lists-one}
-use Rattle.tusvlane.proofs.OneAnswer.{c-plants-one, c-started-one, c-steps-one}
+use Rattle.tusvlane.proofs.NumberLaws.{check-only, induced-only, compare-only}
+use Rattle.tusvlane.proofs.NumberLaws.{apply-only, verdict-only, judge-only}
+use Rattle.tusvlane.proofs.NumberLaws.{list-only, read-only, step-only}
 
 -- ==== Demand 1: an answer or one refusal for every input, and a refusal
 -- leaves what was lent.
 
 -- Each call has one answer, and leaves one state of what was lent to it.
-pub one-check : (n : ℕ) (t : List ℕ) (a b : Checked) → checkSays a ≡ treeSaid n t
-    → checkSays b ≡ treeSaid n t → a ≡ b
-one-check n t a b x z = checked-one a b (x ∙ sym z)
+pub one-check : (n : ℕ) (t : List ℕ) (a b : Checked) → Checks n t a → Checks n t b
+    → a ≡ b
+one-check n t a b x z =
+    call-settles checkSays checked-one {a = a} {b = b} x z .0
 
 pub one-induced : (n : ℕ) (t : List ℕ) (y : ℕ) (out : List ℕ) (a b : Induced)
     (p q : List ℕ) → Induces n t y out a p → Induces n t y out b q
     → (a ≡ b) × (p ≡ q)
-one-induced = induces-one
+one-induced n t y out a b p q =
+    call-settles inducedSays induced-one {a = a} {b = b}
 
 pub one-compared : (n : ℕ) (t u : List ℕ) (y : ℕ) (a b : Compared)
-    → compareSays a ≡ comparedSaid n t u y
-    → compareSays b ≡ comparedSaid n t u y → a ≡ b
-one-compared n t u y a b x z = compared-one a b (x ∙ sym z)
+    → Compares n t u y a → Compares n t u y b → a ≡ b
+one-compared n t u y a b x z =
+    call-settles compareSays compared-one {a = a} {b = b} x z .0
 
 pub one-applied : (n : ℕ) (t : List ℕ) (m : Move) (a b : Moved) (u v : List ℕ)
     → Applies n t m a u → Applies n t m b v → (a ≡ b) × (u ≡ v)
-one-applied = applies-one
+one-applied n t m a b u v = call-settles moveSays moved-one {a = a} {b = b}
 
 pub one-judged : (n : ℕ) (t ys : List ℕ) (m : Move) (out : List ℕ)
     (a b : Judged) (u v : List ℕ) → JudgesAll n t ys m out a u
     → JudgesAll n t ys m out b v → (a ≡ b) × (u ≡ v)
-one-judged = judges-one
+one-judged n t ys m out a b u v =
+    call-settles judgeSays judged-one {a = a} {b = b}
 
 pub one-verdict : (n : ℕ) (t : List ℕ) (y : ℕ) (m : Move) (a b : Verdict)
     → JudgesOne n t y m a → JudgesOne n t y m b → a ≡ b
-one-verdict = verdict-one
+one-verdict n t y m a b x z =
+    call-settles verdictSays verdict-one {a = a} {b = b} x z .0
 
-pub one-listed : (n : ℕ) (t ys : List ℕ) (m : Move) (k : ℕ) (out : List ℕ)
-    (place : ℕ) (a b : Lines) (u v o p : List ℕ)
-    → Lists n t ys m k out place a u o → Lists n t ys m k out place b v p
-    → (a ≡ b) × (u ≡ v) × (o ≡ p)
-one-listed = lists-one
+pub one-listed : (n : ℕ) (ys : List ℕ) (m : Move) (k place : ℕ) (p : Page)
+    (a b : Lines) (q r : Page) → Lists n ys m k place p a q
+    → Lists n ys m k place p b r → (a ≡ b) × (q ≡ r)
+one-listed n ys m k place p a b q r =
+    call-settles linesSays lines-one {a = a} {b = b}
 
 pub one-read : (n : ℕ) (s out : List ℕ) (a b : Reading) (p q : List ℕ)
     → Plants n s out a p → Plants n s out b q → (a ≡ b) × (p ≡ q)
-one-read = plants-one
+one-read n s out a b p q =
+    callBy-settles readingSays reading-one (reads-one n s (length out)) {a = a} {b = b}
 
 pub one-start : (a b : State) → a ≡ first → b ≡ first → a ≡ b
-one-start = c-started-one
+one-start a b x z = x ∙ sym z
 
 pub one-step : (j : List ℕ) (s : State) (m : Lent) (a b : Stepped) (p q : Lent)
     → steps.Steps j s m a p → steps.Steps j s m b q → (a ≡ b) × (p ≡ q)
-one-step j s m a b p q = gives-one
+one-step j s m a b p q =
+    call-settles steppedSays stepped-one {a = a} {b = b}
 
 -- Under its C name a call has one answer too, to the last number, and leaves
 -- one state of what was lent to it. tusvlane_start promises what start does.
-pub one-c-check : (n : ℕ) (t : List ℕ) (a b : ℕ) → a ≡ codeOf (treeSaid n t)
-    → b ≡ codeOf (treeSaid n t) → a ≡ b
-one-c-check = c-checked-one
+pub one-c-check : (n : ℕ) (t : List ℕ) (a b : ℕ) → c.Checks n t a → c.Checks n t b
+    → a ≡ b
+one-c-check n t a b x z = call-one x z .0
 
 pub one-c-induced : (n : ℕ) (t : List ℕ) (y : ℕ) (out : List ℕ) (a b : Answer)
     (p q : List ℕ) → c.Induces n t y out a p → c.Induces n t y out b q
     → (a ≡ b) × (p ≡ q)
-one-c-induced = c-induces-one
+one-c-induced n t y out a b p q = call-one
 
 pub one-c-compared : (n : ℕ) (t u : List ℕ) (y : ℕ) (a b : Comparison)
-    → a ≡ comparisonOf (comparedSaid n t u y)
-    → b ≡ comparisonOf (comparedSaid n t u y) → a ≡ b
-one-c-compared = c-compared-one
+    → c.Compares n t u y a → c.Compares n t u y b → a ≡ b
+one-c-compared n t u y a b x z = call-one x z .0
 
 pub one-c-applied : (n : ℕ) (t : List ℕ) (m : Move) (a b : ℕ) (u v : List ℕ)
     → c.Applies n t m a u → c.Applies n t m b v → (a ≡ b) × (u ≡ v)
-one-c-applied = c-applies-one
+one-c-applied n t m a b u v = call-one
 
 pub one-c-judged : (n : ℕ) (t ys : List ℕ) (m : Move) (out : List ℕ)
     (a b : Answer) (p q : List ℕ) → c.Judges n t ys m out a p
     → c.Judges n t ys m out b q → (a ≡ b) × (p ≡ q)
-one-c-judged = c-judges-one
+one-c-judged n t ys m out a b p q = call-one
 
 pub one-c-verdict : (n : ℕ) (t : List ℕ) (y : ℕ) (m : Move) (a b : Answer)
-    → a ≡ answerOf (judgedOneSaid n t y m)
-    → b ≡ answerOf (judgedOneSaid n t y m) → a ≡ b
-one-c-verdict = c-verdict-one
+    → c.JudgesOne n t y m a → c.JudgesOne n t y m b → a ≡ b
+one-c-verdict n t y m a b x z = call-one x z .0
 
-pub one-c-listed : (n : ℕ) (t ys : List ℕ) (m : Move) (k : ℕ) (out : List ℕ)
-    (place : ℕ) (a b : Answer) (u v p q : List ℕ)
-    → c.Lists n t ys m k out place a u p → c.Lists n t ys m k out place b v q
-    → (a ≡ b) × (u ≡ v) × (p ≡ q)
-one-c-listed = c-lists-one
+pub one-c-listed : (n : ℕ) (ys : List ℕ) (m : Move) (k place : ℕ) (p : Page)
+    (a b : Answer) (q r : Page) → c.Lists n ys m k place p a q
+    → c.Lists n ys m k place p b r → (a ≡ b) × (q ≡ r)
+one-c-listed n ys m k place p a b q r = call-one
 
 pub one-c-read : (n : ℕ) (s out : List ℕ) (a b : Placed) (p q : List ℕ)
     → c.Plants n s out a p → c.Plants n s out b q → (a ≡ b) × (p ≡ q)
-one-c-read = c-plants-one
+one-c-read n s out a b p q = callBy-one (reads-one n s (length out))
 
 pub one-c-step : (j : List ℕ) (s : State) (m : Lent) (a b : StepAnswer)
     (p q : Lent) → c.Steps j s m a p → c.Steps j s m b q → (a ≡ b) × (p ≡ q)
-one-c-step = c-steps-one
+one-c-step j s m a b p q = call-one
 
 -- There the refusal number is 0 exactly when the call gives its answer.
-pub zero-c-check : (n : ℕ) (t : List ℕ) (r : ℕ) → r ≡ codeOf (treeSaid n t)
+pub zero-c-check : (n : ℕ) (t : List ℕ) (r : ℕ) → c.Checks n t r
     → (r ≡ 0) ↔ Given (treeSaid n t)
-zero-c-check n t r h = zero-iff (treeSaid n t) r (check-number n t r h)
+zero-c-check n t r = call-zero (λ k. k) (λ s. refl)
 
 pub zero-c-induced : (n : ℕ) (t : List ℕ) (y : ℕ) (out : List ℕ) (r : Answer)
     (out′ : List ℕ) → c.Induces n t y out r out′
     → (r .refusal ≡ 0) ↔ Given (inducedSaid n t y (length out))
-zero-c-induced n t y out r out′ p =
-    zero-iff (inducedSaid n t y (length out)) (r .refusal)
-    (induced-number n t y out r out′ p)
+zero-c-induced n t y out r out′ = call-zero (λ a. a .refusal) (code-told length)
 
 pub zero-c-compared : (n : ℕ) (t u : List ℕ) (y : ℕ) (r : Comparison)
-    → r ≡ comparisonOf (comparedSaid n t u y)
-    → (r .refusal ≡ 0) ↔ Given (comparedSaid n t u y)
-zero-c-compared n t u y r h =
-    zero-iff (comparedSaid n t u y) (r .refusal) (compare-number n t u y r h)
+    → c.Compares n t u y r → (r .refusal ≡ 0) ↔ Given (comparedSaid n t u y)
+zero-c-compared n t u y r = call-zero (λ a. a .refusal) (λ s. refl)
 
 pub zero-c-applied : (n : ℕ) (t : List ℕ) (m : Move) (r : ℕ) (t′ : List ℕ)
     → c.Applies n t m r t′ → (r ≡ 0) ↔ Given (movedSaid n t m)
-zero-c-applied n t m r t′ p =
-    zero-iff (movedSaid n t m) r (apply-number n t m r t′ p)
+zero-c-applied n t m r t′ = call-zero (λ k. k) (code-told done)
 
 pub zero-c-judged : (n : ℕ) (t ys : List ℕ) (m : Move) (out : List ℕ)
     (r : Answer) (out′ : List ℕ) → c.Judges n t ys m out r out′
     → (r .refusal ≡ 0) ↔ Given (judgedSaid n t ys m (length out))
-zero-c-judged n t ys m out r out′ p =
-    zero-iff (judgedSaid n t ys m (length out)) (r .refusal)
-    (judge-number n t m ys out r out′ p)
+zero-c-judged n t ys m out r out′ = call-zero (λ a. a .refusal) (code-told zeros)
 
 pub zero-c-verdict : (n : ℕ) (t : List ℕ) (y : ℕ) (m : Move) (r : Answer)
-    → r ≡ answerOf (judgedOneSaid n t y m)
-    → (r .refusal ≡ 0) ↔ Given (judgedOneSaid n t y m)
-zero-c-verdict n t y m r h =
-    zero-iff (judgedOneSaid n t y m) (r .refusal) (verdict-number n t m y r h)
+    → c.JudgesOne n t y m r → (r .refusal ≡ 0) ↔ Given (judgedOneSaid n t y m)
+zero-c-verdict n t y m r = call-zero (λ a. a .refusal) (λ s. refl)
 
-pub zero-c-listed : (n : ℕ) (t ys : List ℕ) (m : Move) (k : ℕ) (out : List ℕ)
-    (place : ℕ) (r : Answer) (t′ out′ : List ℕ)
-    → c.Lists n t ys m k out place r t′ out′
-    → (r .refusal ≡ 0) ↔ Given (linesSaid n t ys m k (length out) place)
-zero-c-listed n t ys m k out place r t′ out′ p =
-    zero-iff (linesSaid n t ys m k (length out) place) (r .refusal)
-    (list-number n t m ys k out place r t′ out′ p)
+pub zero-c-listed : (n : ℕ) (ys : List ℕ) (m : Move) (k place : ℕ) (p : Page)
+    (r : Answer) (q : Page) → c.Lists n ys m k place p r q
+    → (r .refusal ≡ 0)
+    ↔ Given (linesSaid n (p .table) ys m k (length (p .out)) place)
+zero-c-listed n ys m k place p r q =
+    call-zero (λ a. a .refusal) (code-told (placeAfter place))
 
 pub zero-c-read : (n : ℕ) (s out : List ℕ) (r : Placed) (out′ : List ℕ)
     → c.Plants n s out r out′
-    → (r .refusal ≡ 0) ↔ ((t : List ℕ) × Reads n s (length out) (reader.gives t))
-zero-c-read n s out r out′ p = (there (p .heard) (p .by) number, back)
+    → (r .refusal ≡ 0) ↔ ((t : List ℕ) × Reads n s (length out) (gives t))
+zero-c-read n s out r out′ p = (there (p .said) (p .is) (zero .0), back)
   where
-    number : Numbered (readSaid (p .heard)) (r .refusal)
-    number = read-number n s out r out′ p
+    zero : (r .refusal ≡ 0) ↔ Given (p .said)
+    zero = call-zero (λ a. a .refusal) (code-told done) (p .call)
 
-    there : (h : Heard (List ℕ)) → Reads n s (length out) h
-        → Numbered (readSaid h) (r .refusal) → r .refusal ≡ 0
-        → (t : List ℕ) × Reads n s (length out) (reader.gives t)
-    there (reader.gives t) by k z = (t, by)
-    there (reader.refuses j) by k z = absurd (zero-iff (refuses j) (r .refusal) k .0 z)
-    there (refusesAt j q) by k z = absurd (zero-iff (refuses j) (r .refusal) k .0 z)
+    there : (h : Said (List ℕ)) → Reads n s (length out) h
+        → (r .refusal ≡ 0 → Given h) → r .refusal ≡ 0
+        → (t : List ℕ) × Reads n s (length out) (gives t)
+    there (gives t) by g z = (t, by)
+    there (refuses k) by g z = absurd (g z)
+    there (refusesAt k q) by g z = absurd (g z)
 
-    back : (t : List ℕ) × Reads n s (length out) (reader.gives t) → r .refusal ≡ 0
+    back : (t : List ℕ) × Reads n s (length out) (gives t) → r .refusal ≡ 0
     back (t, w) =
-        let e = reads-one n s (length out) (reader.gives t) (p .heard) w (p .by) in
-        zero-iff (readSaid (p .heard)) (r .refusal) number .1
-        (subst (λ (h : Heard (List ℕ)). Given (readSaid h)) e tt)
+        let e = reads-one n s (length out) (gives t) (p .said) w (p .is) in
+        zero .1 (subst Given e tt)
 
 pub zero-c-step : (j : List ℕ) (s : State) (m : Lent) (r : StepAnswer)
     (m′ : Lent) → c.Steps j s m r m′
-    → (r .refusal ≡ 0) ↔ Given (stepSaid (steps.stepped j s m))
-zero-c-step j s m r m′ p =
-    zero-iff (stepSaid (steps.stepped j s m)) (r .refusal)
-    (step-number j s m r m′ p)
+    → (r .refusal ≡ 0) ↔ Given (steps.stepped j s m)
+zero-c-step j s m r m′ = call-zero (λ a. a .refusal) (code-told toldOf)
+
+-- Where it is not 0, it is one of the numbers that the C header names for the
+-- call.
+pub number-c-check : (n : ℕ) (t : List ℕ) (r : ℕ) → c.Checks n t r
+    → (r ≡ 0 → ⊥) → on checkNumbers r ≡ true
+number-c-check n t r =
+    call-on (λ k. k) (λ s. refl) checkNumbers (check-only n t)
+
+pub number-c-induced : (n : ℕ) (t : List ℕ) (y : ℕ) (out : List ℕ) (r : Answer)
+    (out′ : List ℕ) → c.Induces n t y out r out′ → (r .refusal ≡ 0 → ⊥)
+    → on inducedNumbers (r .refusal) ≡ true
+number-c-induced n t y out r out′ =
+    call-on (λ a. a .refusal) (code-told length) inducedNumbers
+    (induced-only n t y (length out))
+
+pub number-c-compared : (n : ℕ) (t u : List ℕ) (y : ℕ) (r : Comparison)
+    → c.Compares n t u y r → (r .refusal ≡ 0 → ⊥)
+    → on compareNumbers (r .refusal) ≡ true
+number-c-compared n t u y r =
+    call-on (λ a. a .refusal) (λ s. refl) compareNumbers (compare-only n t u y)
+
+pub number-c-applied : (n : ℕ) (t : List ℕ) (m : Move) (r : ℕ) (t′ : List ℕ)
+    → c.Applies n t m r t′ → (r ≡ 0 → ⊥) → on applyNumbers r ≡ true
+number-c-applied n t m r t′ =
+    call-on (λ k. k) (code-told done) applyNumbers (apply-only n t m)
+
+pub number-c-judged : (n : ℕ) (t ys : List ℕ) (m : Move) (out : List ℕ)
+    (r : Answer) (out′ : List ℕ) → c.Judges n t ys m out r out′
+    → (r .refusal ≡ 0 → ⊥) → on judgeNumbers (r .refusal) ≡ true
+number-c-judged n t ys m out r out′ =
+    call-on (λ a. a .refusal) (code-told zeros) judgeNumbers
+    (judge-only n t m ys (length out))
+
+pub number-c-verdict : (n : ℕ) (t : List ℕ) (y : ℕ) (m : Move) (r : Answer)
+    → c.JudgesOne n t y m r → (r .refusal ≡ 0 → ⊥)
+    → on verdictNumbers (r .refusal) ≡ true
+number-c-verdict n t y m r =
+    call-on (λ a. a .refusal) (λ s. refl) verdictNumbers (verdict-only n t m y)
+
+pub number-c-listed : (n : ℕ) (ys : List ℕ) (m : Move) (k place : ℕ) (p : Page)
+    (r : Answer) (q : Page) → c.Lists n ys m k place p r q
+    → (r .refusal ≡ 0 → ⊥) → on judgeNumbers (r .refusal) ≡ true
+number-c-listed n ys m k place p r q =
+    call-on (λ a. a .refusal) (code-told (placeAfter place)) judgeNumbers
+    (list-only n (p .table) m ys k (length (p .out)) place)
+
+pub number-c-read : (n : ℕ) (s out : List ℕ) (r : Placed) (out′ : List ℕ)
+    → c.Plants n s out r out′ → (r .refusal ≡ 0 → ⊥)
+    → on readNumbers (r .refusal) ≡ true
+number-c-read n s out r out′ p =
+    call-on (λ a. a .refusal) (code-told done) readNumbers
+    (read-only n s (length out) (p .said) (p .is)) (p .call)
+
+pub number-c-step : (j : List ℕ) (s : State) (m : Lent) (r : StepAnswer)
+    (m′ : Lent) → c.Steps j s m r m′ → (r .refusal ≡ 0 → ⊥)
+    → on stepNumbers (r .refusal) ≡ true
+number-c-step j s m r m′ =
+    call-on (λ a. a .refusal) (code-told toldOf) stepNumbers (step-only j s m)
 
 -- A refused list of splits leaves the lent list.
 pub kept-induced : (n : ℕ) (t : List ℕ) (y : ℕ) (out : List ℕ) (r : Refusal)
     (out′ : List ℕ) → Induces n t y out (Induced.Refused r) out′ → out′ ≡ out
-kept-induced n t y out r out′ p =
-    go (inducedSaid n t y (length out)) (p .says) (p .memory)
-  where
-    go : (x : Said (List ℕ)) → refuses (numberOf r) ≡ howMany x
-        → out′ ≡ written x out → out′ ≡ out
-    go (gives l) e h = absurd (let z : _≡_ {A = ℕ} 0 1 = cc in omega arith)
-    go (refuses k) e h = h
+kept-induced n t y out r out′ p = call-refused p .1
 
 -- A refused move leaves the lent table.
 pub kept-applied : (n : ℕ) (t : List ℕ) (m : Move) (r : Refusal) (t′ : List ℕ)
     → Applies n t m (Moved.Refused r) t′ → t′ ≡ t
-kept-applied n t m r t′ p = go (movedSaid n t m) (p .says) (p .memory)
-  where
-    go : (x : Said (List ℕ)) → refuses (numberOf r) ≡ done x
-        → t′ ≡ tableAfter x t → t′ ≡ t
-    go (gives u) e h = absurd (let z : _≡_ {A = ℕ} 0 1 = cc in omega arith)
-    go (refuses k) e h = h
+kept-applied n t m r t′ p = call-refused p .1
 
 -- A refused judgement leaves the lent list.
 pub kept-judged : (n : ℕ) (t ys : List ℕ) (m : Move) (out : List ℕ)
     (r : Refusal) (out′ : List ℕ)
     → JudgesAll n t ys m out (Judged.Refused r) out′ → out′ ≡ out
-kept-judged n t ys m out r out′ p =
-    go (judgedSaid n t ys m (length out)) (p .says) (p .memory)
-  where
-    go : (x : Said (List ℕ)) → refuses (numberOf r) ≡ howManySame x
-        → out′ ≡ written x out → out′ ≡ out
-    go (gives l) e h = absurd (let z : _≡_ {A = ℕ} 0 1 = cc in omega arith)
-    go (refuses k) e h = h
+kept-judged n t ys m out r out′ p = call-refused p .1
 
 -- A move whose lines are refused leaves the lent table and the lent output.
-pub kept-listed : (n : ℕ) (t ys : List ℕ) (m : Move) (k : ℕ) (out : List ℕ)
-    (place : ℕ) (r : Refusal) (t′ out′ : List ℕ)
-    → Lists n t ys m k out place (Lines.Refused r) t′ out′
-    → (t′ ≡ t) × (out′ ≡ out)
-kept-listed n t ys m k out place r t′ out′ p =
-    go (linesSaid n t ys m k (length out) place) (p .says) (p .table) (p .memory)
-  where
-    go : (x : Said (List ℕ)) → refuses (numberOf r) ≡ placeAfter place x
-        → t′ ≡ listing.tableThen x (moved n t m) t
-        → out′ ≡ listing.outThen x place out → (t′ ≡ t) × (out′ ≡ out)
-    go (gives l) e a b = absurd (let z : _≡_ {A = ℕ} 0 1 = cc in omega arith)
-    go (refuses j) e a b = (a, b)
+pub kept-listed : (n : ℕ) (ys : List ℕ) (m : Move) (k place : ℕ) (p : Page)
+    (r : Refusal) (q : Page) → Lists n ys m k place p (Lines.Refused r) q
+    → q ≡ p
+kept-listed n ys m k place p r q x = call-refused x .1
 
 -- A refused text leaves the lent table.
 pub kept-read : (n : ℕ) (s out : List ℕ) (r : Refusal) (out′ : List ℕ)
     → Plants n s out (Reading.Refused r) out′ → out′ ≡ out
-kept-read n s out r out′ p = go (p .heard) (p .says) (p .memory)
-  where
-    go : (h : Heard (List ℕ)) → reader.refuses (numberOf r) ≡ told h
-        → out′ ≡ planted h out → out′ ≡ out
-    go (reader.gives t) e m =
-        absurd (let z : _≡_ {A = ℕ} 0 1 = cc in omega arith)
-    go (reader.refuses k) e m = m
-    go (refusesAt k q) e m = m
+kept-read n s out r out′ p = call-refused (p .call) .1
 
 -- So does one that is refused with a place.
 pub kept-read-at : (n : ℕ) (s out : List ℕ) (r : Refusal) (place : ℕ)
     (out′ : List ℕ) → Plants n s out (Reading.RefusedAt r place) out′
     → out′ ≡ out
-kept-read-at n s out r place out′ p = go (p .heard) (p .says) (p .memory)
-  where
-    go : (h : Heard (List ℕ)) → refusesAt (numberOf r) place ≡ told h
-        → out′ ≡ planted h out → out′ ≡ out
-    go (reader.gives t) e m =
-        absurd (let z : _≡_ {A = ℕ} 0 1 = cc in omega arith)
-    go (reader.refuses k) e m = m
-    go (refusesAt k q) e m = m
+kept-read-at n s out r place out′ p = call-refusedAt (p .call) .1
 
 -- A refused step leaves the lent table, partitions and output.
 pub kept-step : (j : List ℕ) (s : State) (m : Lent) (r : Refusal) (place : ℕ)
     (m′ : Lent) → steps.Steps j s m (Stepped.Refused r place) m′ → m′ ≡ m
-kept-step j s m r place m′ g = go (steps.stepped j s m) (g .says) (g .memory)
-  where
-    go : (q : Outcome) → steps.stopped (numberOf r) place ≡ toldOf q
-        → m′ ≡ lentThen q m → m′ ≡ m
-    go (next k ls) e h = absurd (let z : _≡_ {A = ℕ} 0 1 = cc in omega arith)
-    go over e h = h
-    go (stop k w) e h = h
+kept-step j s m r place m′ g = call-refusedAt g .1
 
 -- Under its C name a call whose refusal number is not 0 leaves what was lent.
 pub kept-c-induced : (n : ℕ) (t : List ℕ) (y : ℕ) (out : List ℕ) (r : Answer)
     (out′ : List ℕ) → c.Induces n t y out r out′ → (r .refusal ≡ 0 → ⊥)
     → out′ ≡ out
-kept-c-induced n t y out r out′ p d =
-    p .memory
-    ∙ kept-numbered (inducedSaid n t y (length out)) (r .refusal)
-    (induced-number n t y out r out′ p) d (λ x. written x out) out (λ j. refl)
+kept-c-induced n t y out r out′ = call-kept (λ a. a .refusal) (code-told length)
 
 pub kept-c-applied : (n : ℕ) (t : List ℕ) (m : Move) (r : ℕ) (t′ : List ℕ)
     → c.Applies n t m r t′ → (r ≡ 0 → ⊥) → t′ ≡ t
-kept-c-applied n t m r t′ p d =
-    p .memory
-    ∙ kept-numbered (movedSaid n t m) r (apply-number n t m r t′ p) d
-    (λ x. tableAfter x t) t (λ j. refl)
+kept-c-applied n t m r t′ = call-kept (λ k. k) (code-told done)
 
 pub kept-c-judged : (n : ℕ) (t ys : List ℕ) (m : Move) (out : List ℕ)
     (r : Answer) (out′ : List ℕ) → c.Judges n t ys m out r out′
     → (r .refusal ≡ 0 → ⊥) → out′ ≡ out
-kept-c-judged n t ys m out r out′ p d =
-    p .memory
-    ∙ kept-numbered (judgedSaid n t ys m (length out)) (r .refusal)
-    (judge-number n t m ys out r out′ p) d (λ x. written x out) out (λ j. refl)
+kept-c-judged n t ys m out r out′ = call-kept (λ a. a .refusal) (code-told zeros)
 
-pub kept-c-listed : (n : ℕ) (t ys : List ℕ) (m : Move) (k : ℕ) (out : List ℕ)
-    (place : ℕ) (r : Answer) (t′ out′ : List ℕ)
-    → c.Lists n t ys m k out place r t′ out′ → (r .refusal ≡ 0 → ⊥)
-    → (t′ ≡ t) × (out′ ≡ out)
-kept-c-listed n t ys m k out place r t′ out′ p d =
-    let said = linesSaid n t ys m k (length out) place in
-    let number = list-number n t m ys k out place r t′ out′ p in (
-      p .table ∙ kept-numbered said (r .refusal) number d
-          (λ x. listing.tableThen x (moved n t m) t) t (λ j. refl),
-      p .memory ∙ kept-numbered said (r .refusal) number d
-          (λ x. listing.outThen x place out) out (λ j. refl),
-    )
+pub kept-c-listed : (n : ℕ) (ys : List ℕ) (m : Move) (k place : ℕ) (p : Page)
+    (r : Answer) (q : Page) → c.Lists n ys m k place p r q
+    → (r .refusal ≡ 0 → ⊥) → q ≡ p
+kept-c-listed n ys m k place p r q =
+    call-kept (λ a. a .refusal) (code-told (placeAfter place))
 
 pub kept-c-read : (n : ℕ) (s out : List ℕ) (r : Placed) (out′ : List ℕ)
     → c.Plants n s out r out′ → (r .refusal ≡ 0 → ⊥) → out′ ≡ out
-kept-c-read n s out r out′ p d =
-    p .memory ∙ go (p .heard) (read-number n s out r out′ p)
-  where
-    go : (h : Heard (List ℕ)) → Numbered (readSaid h) (r .refusal)
-        → planted h out ≡ out
-    go (reader.gives t) k = absurd (d (zero-iff (gives tt) (r .refusal) k .1 tt))
-    go (reader.refuses j) k = refl
-    go (refusesAt j q) k = refl
+kept-c-read n s out r out′ p =
+    call-kept (λ a. a .refusal) (code-told done) (p .call)
 
 pub kept-c-step : (j : List ℕ) (s : State) (m : Lent) (r : StepAnswer)
     (m′ : Lent) → c.Steps j s m r m′ → (r .refusal ≡ 0 → ⊥) → m′ ≡ m
-kept-c-step j s m r m′ p d =
-    p .memory ∙ go (steps.stepped j s m) (step-number j s m r m′ p)
-  where
-    go : (o : Outcome) → Numbered (stepSaid o) (r .refusal) → lentThen o m ≡ m
-    go (next k ls) w = absurd (d (zero-iff (gives tt) (r .refusal) w .1 tt))
-    go over w = refl
-    go (stop k q) w = refl
+kept-c-step j s m r m′ = call-kept (λ a. a .refusal) (code-told toldOf)
 
 -- Every job comes to an end: its listing closes with `end M` or with `refused
 -- N at P`.
@@ -405,13 +378,13 @@ every-job-ends = listing-closes
 
 -- Every accepted text gives a valid table.
 pub read-valid : (n : ℕ) (s : List ℕ) (room : ℕ) (t : List ℕ)
-    → Reads n s room (reader.gives t) → Accepted n t
+    → Reads n s room (gives t) → Accepted n t
 read-valid = reads-valid
 
 -- With a right number of taxa and room for it, a table is given exactly for
 -- the texts of the grammar.
 pub read-iff : (n : ℕ) (s : List ℕ) (room : ℕ) → Right n → 2 * rows n ≤ room
-    → ((t : List ℕ) × Reads n s room (reader.gives t)) ↔ IsTree n s
+    → ((t : List ℕ) × Reads n s room (gives t)) ↔ IsTree n s
 read-iff = reads-iff
 
 -- The table after an accepted move on a tree is a tree again.
@@ -488,7 +461,7 @@ listed-seen n t ys m k room place ls h i l =
 
 -- So it is in a job: where a field gives lines, each taxon is in a partition.
 pub lines-seen : (j : List ℕ) (k k′ : Known) (ls : List ℕ)
-    → job.field j k ≡ next k′ ls → (ls ≡ [] → ⊥) → (i : ℕ) → i < k .taxa
+    → job.field j k ≡ gives (next k′ ls) → (ls ≡ [] → ⊥) → (i : ℕ) → i < k .taxa
     → inSome (k .parts) i ≡ true
 lines-seen = field-seen
 
@@ -511,7 +484,7 @@ program-room = room-enough
 -- With room for any job no step is refused for a state or for room: it is 13
 -- or what the field alone gives.
 pub program-step : (j : List ℕ) (s : State) (m : Lent) → Going j s m
-    → steps.stepped j s m ≡ pick (ltb job.longest (length j)) (stop 13 0)
+    → steps.stepped j s m ≡ pick (ltb job.longest (length j)) (refusesAt Refusal.Long 0)
     (job.field j (steps.knownOf s m))
 program-step = going-field
 

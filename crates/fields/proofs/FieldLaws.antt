@@ -16,26 +16,26 @@ use borrow.Author.Tests.{eq-eqb, ne-eqb, le-leb, lt-leb, leb-true}
 use Rattle.taxa.specs.Most.{mostPartitions}
 use Rattle.taxa.specs.Sets.{pick}
 use Rattle.taxa.proofs.Bools.{bool-eq, and-false-r}
-use Rattle.fields.specs.Fields.{statedAt, headed, complete, highFirst, numberIn, allowed}
+use Rattle.fields.specs.Fields.{statedAt, headed, complete, highFirst, numberIn, allowedOf, allowed}
 
 -- ---- tags
 module _ (at parts moves tag : ℕ) where
   pub at-start : at ≡ 0 → eqb tag 1 ≡ allowed at parts moves tag
-  unfolding allowed
+  unfolding allowedOf
   at-start h = rw (eq-eqb at 0 h)
 
   pub at-table : at ≡ 4 → eqb tag 2 ≡ allowed at parts moves tag
-  unfolding allowed
+  unfolding allowedOf
   at-table h = rw h
 
   module _ (a : at ≡ 0 → ⊥) (b : at ≡ 4 → ⊥) where
     pub no-parts : parts ≡ 0 → eqb tag 3 ≡ allowed at parts moves tag
-    unfolding allowed
+    unfolding allowedOf
     no-parts h = rw (ne-eqb at 0 a, ne-eqb at 4 b, eq-eqb parts 0 h)
 
     module _ (c : parts ≡ 0 → ⊥) where
       pub a-move : tag ≡ 4 → true ≡ allowed at parts moves tag
-      unfolding allowed
+      unfolding allowedOf
       a-move h = rw (ne-eqb at 0 a, ne-eqb at 4 b, ne-eqb parts 0 c, eq-eqb tag 4 h) (same (eqb moves 0))
         where
           same : (m : Bool) → true ≡ pick m true true
@@ -44,15 +44,15 @@ module _ (at parts moves tag : ℕ) where
 
       module _ (d : tag ≡ 4 → ⊥) where
         pub moves-only : (moves ≡ 0 → ⊥) → false ≡ allowed at parts moves tag
-        unfolding allowed
+        unfolding allowedOf
         moves-only h = rw (ne-eqb at 0 a, ne-eqb at 4 b, ne-eqb parts 0 c, ne-eqb tag 4 d, ne-eqb moves 0 h)
 
         pub no-tag : moves ≡ 0 → (tag ≡ 3 → ⊥) → false ≡ allowed at parts moves tag
-        unfolding allowed
+        unfolding allowedOf
         no-tag h e = rw (ne-eqb at 0 a, ne-eqb at 4 b, ne-eqb parts 0 c, ne-eqb tag 4 d, eq-eqb moves 0 h, ne-eqb tag 3 e)
 
         pub more-parts : moves ≡ 0 → tag ≡ 3 → ltb parts mostPartitions ≡ allowed at parts moves tag
-        unfolding allowed
+        unfolding allowedOf
         more-parts h e = rw (ne-eqb at 0 a, ne-eqb at 4 b, ne-eqb parts 0 c, ne-eqb tag 4 d, eq-eqb moves 0 h, eq-eqb tag 3 e)
 
 -- ---- lengths

@@ -4,9 +4,11 @@ use mathlib.Core.Bool.{Bool, _&&_, _||_}
 use mathlib.Core.List.{List, [], _∷_}
 use lib.Dec.{eqb, ltb, leb}
 use lib.ListN.{length, getD, take, drop}
+use Rattle.calls.specs.declared.Refusal.{Refusal}
 use Rattle.taxa.specs.Most.{mostPartitions}
 use Rattle.taxa.specs.Sets.{pick}
-use Rattle.tree.specs.Refusals.{Check, _else_}
+use Rattle.calls.specs.Calls.{Check, _else_}
+use Rattle.tree.specs.Editions.{Edition, narrow}
 use Rattle.moves.specs.Moves.{Move}
 
 -- ---- a field: one-byte tag, two-byte length (high byte first), content
@@ -30,20 +32,45 @@ highFirst a (b ∷ bs) = highFirst (a * 256 + b) bs
 abbrev pub numberIn : List ℕ → ℕ
 numberIn bs = highFirst 0 bs
 
--- A move is four bytes: kind, then three row numbers.
+-- A move: the byte of its kind, then three row numbers.
+abbrev pub moveInOf : Edition → List ℕ → Move
+moveInOf E bs =
+    record {
+      kind = getD bs 0 0;
+      first = E .number bs 1;
+      second = E .number bs (1 + E .bytes);
+      third = E .number bs (1 + 2 * E .bytes);
+    }
+
 abbrev pub moveIn : List ℕ → Move
-moveIn bs =
-    record { kind = getD bs 0 0; first = getD bs 1 0; second = getD bs 2 0; third = getD bs 3 0 }
+moveIn = moveInOf narrow
+
+-- How long the contents are: n, a partition and a move.
+abbrev pub taxaLong : Edition → ℕ
+taxaLong E = E .bytes
+
+abbrev pub partLong : Edition → ℕ
+partLong E = E .set
+
+abbrev pub moveLong : Edition → ℕ
+moveLong E = 1 + 3 * E .bytes
+
+-- Where the table's field stands: after the tag, the length and n.
+abbrev pub tablePlace : Edition → ℕ
+tablePlace E = 3 + taxaLong E
 
 -- ---- order and length
 
 -- The tag is allowed here: n once, first; the table once, second; then 1 to 64
 -- partitions; then moves to the end.
-unfoldable pub allowed : ℕ → ℕ → ℕ → ℕ → Bool
-allowed at parts moves tag =
+unfoldable pub allowedOf : Edition → ℕ → ℕ → ℕ → ℕ → Bool
+allowedOf E at parts moves tag =
     pick (eqb at 0) (eqb tag 1)
-    (pick (eqb at 4) (eqb tag 2)
+    (pick (eqb at (tablePlace E)) (eqb tag 2)
     (pick (eqb parts 0) (eqb tag 3) (pick (eqb moves 0) (eqb tag 4 || eqb tag 3 && ltb parts mostPartitions) (eqb tag 4))))
+
+abbrev pub allowed : ℕ → ℕ → ℕ → ℕ → Bool
+allowed = allowedOf narrow
 
 -- The tag and the two bytes of the length are there.
 abbrev pub headed : List ℕ → ℕ → Bool
@@ -53,8 +80,11 @@ headed job at = leb (at + 3) (length job)
 abbrev pub complete : List ℕ → ℕ → ℕ → Bool
 complete job at l = leb (at + 3 + l) (length job)
 
+-- The field at an offset has the length l and is there to its end.
+abbrev pub lengthRight : List ℕ → ℕ → ℕ → Bool
+lengthRight job at l = headed job at && eqb (statedAt job at) l && complete job at l
+
 -- 12: the length of a field that must be l is another, or the field is cut
 -- short.
 abbrev pub lengthChecks : List ℕ → ℕ → ℕ → List Check
-lengthChecks job at l =
-    ((headed job at && eqb (statedAt job at) l && complete job at l) else 12) ∷ []
+lengthChecks job at l = (lengthRight job at l else Refusal.Field) ∷ []

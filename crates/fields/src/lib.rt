@@ -2,11 +2,9 @@
 // numbers in bytes.
 ghost use Prim.Native.Nat.{_+_, _<_, _≤_};
 ghost use mathlib.Core.Path.{_≡_};
-ghost use mathlib.Core.Bool.{_&&_};
-ghost use lib.Dec.{eqb};
 ghost use lib.ListN.{length, take, drop};
 ghost use Rattle.fields.specs.Fields as fields_spec;
-ghost use Rattle.fields.specs.Fields.{statedAt, headed, complete, contentAt, numberIn};
+ghost use Rattle.fields.specs.Fields.{statedAt, lengthRight, numberIn};
 
 // Whether a tag is allowed at an offset, after so many partitions and moves.
 pub fn allowed(at: usize, parts: usize, moves: u64, tag: u8) -> bool
@@ -44,7 +42,7 @@ pub fn stated(job: &[u8], at: usize) -> usize
 // Whether the field at an offset has the length l and is there to its end.
 pub fn length_right(job: &[u8], at: usize, l: usize) -> bool
     requires { ⌜ at < length (now job) ⌝ }
-    ensures { λ r. ⌜ r ≡ (headed (now (job .entry)) at && eqb (statedAt (now (job .entry)) at) l && complete (now (job .entry)) at l) ⌝ }
+    ensures { λ r. ⌜ r ≡ lengthRight (now (job .entry)) at l ⌝ }
 {
     let rest = job.len() - at;
     if rest < 3 {

@@ -1,72 +1,58 @@
--- What the test of a move's bytes says at each test of the code. Assumes
--- nothing.
-use mathlib.Core.Path.{_≡_, sym, ap, _∙_}
-use mathlib.Core.Bool.{Bool, true, false, not, _&&_, _||_, or-false}
+-- What the test of a move says at each test of the code. Assumes nothing.
+use mathlib.Core.Path.{_≡_, refl, sym, ap, ap₂, _∙_}
+use mathlib.Core.Bool.{Bool, true, false, not, _&&_, _||_}
 use mathlib.Core.List.{List, [], _∷_}
 use Prim.Native.Nat.{ℕ, _*_, _-_, _≤_, _<_}
 use native.Mathlib.Omega.{arith}
 use lib.Dec.{eqb, leb}
-use borrow.Author.Tests.{eq-eqb, ne-eqb, le-leb, lt-leb, leb-true, eqb-false, not-true}
+use borrow.Author.Tests.{eq-eqb, ne-eqb, le-leb, lt-leb, leb-true}
+use Rattle.calls.specs.declared.Refusal.{Refusal}
+use Rattle.calls.specs.Calls.{Said, _else_, gives, refuses, judged}
 use Rattle.taxa.proofs.Bools.{and-left, and-right, and-false-r}
 use Rattle.tree.specs.Tree.{lo, hi, rows, touches, Valid}
-use Rattle.tree.specs.Refusals.{gives, refuses, judged, Accepted}
+use Rattle.tree.specs.Refusals.{Accepted, each}
 use Rattle.tree.proofs.Joins.{lo-touch, hi-touch}
-use Rattle.tree.proofs.RefusalLaws.{judged-next, judged-fail}
-use Rattle.moves.specs.Moves.{Move, kindRight, rowsRight, fits, anyMoves, nniFits, target, endWith}
 use Rattle.sides.specs.Filled.{At}
-use Rattle.fits.specs.Bytes.{Usable, fitSaid}
-
--- ---- kinds
-module _ (m : Move) where
-  pub kind-1 : m .kind ≡ 1 → true ≡ kindRight m
-  unfolding kindRight
-  kind-1 h = rw (eq-eqb (m .kind) 1 h)
-
-  pub kind-2 : m .kind ≡ 2 → eqb (m .third) 0 ≡ kindRight m
-  unfolding kindRight
-  kind-2 h = rw h (sym (or-false (eqb (m .third) 0)))
-
-  pub kind-3 : (m .kind ≡ 1 → ⊥) → (m .kind ≡ 2 → ⊥) → eqb (m .kind) 3 ≡ kindRight m
-  unfolding kindRight
-  kind-3 a b = rw (ne-eqb (m .kind) 1 a, ne-eqb (m .kind) 2 b)
+use Rattle.moves.specs.Moves.{Move, allRows, atBoth, nniFits, target, targets, kindRight, rowsRight, fits, anyMoves}
+use Rattle.moves.specs.Plans.{planOf}
+use Rattle.moves.specs.declared.Side.{Side}
+use Rattle.moves.specs.declared.Plan.{Plan}
+use Rattle.fits.specs.Entries.{planSaid, nniSaid, sprSaid, tbrSaid}
 
 -- ---- row numbers
-module _ (n : ℕ) (m : Move) where
-  pub first-high : 2 * n - 4 < m .first → false ≡ rowsRight n m
-  unfolding rowsRight
-  first-high h = rw (lt-leb (m .first) (2 * n - 4) h)
+module _ (n a b c : ℕ) where
+  pub first-high : 2 * n - 4 < a → false ≡ allRows n (a ∷ b ∷ c ∷ [])
+  unfolding each
+  first-high h = rw (lt-leb a (2 * n - 4) h)
 
-  pub second-high : 2 * n - 4 < m .second → false ≡ rowsRight n m
-  unfolding rowsRight
-  second-high h = rw (lt-leb (m .second) (2 * n - 4) h, and-false-r (leb (m .first) (2 * n - 4)))
+  pub second-high : 2 * n - 4 < b → false ≡ allRows n (a ∷ b ∷ c ∷ [])
+  unfolding each
+  second-high h = rw (lt-leb b (2 * n - 4) h, and-false-r (leb a (2 * n - 4)))
 
-  module _ (a : m .first ≤ 2 * n - 4) (b : m .second ≤ 2 * n - 4) where
-    pub two-rows : m .kind ≡ 2 → true ≡ rowsRight n m
-    unfolding rowsRight
-    two-rows h = rw (le-leb (m .first) (2 * n - 4) a, le-leb (m .second) (2 * n - 4) b, eq-eqb (m .kind) 2 h)
+  pub third-tells : a ≤ 2 * n - 4 → b ≤ 2 * n - 4 → leb c (2 * n - 4) ≡ allRows n (a ∷ b ∷ c ∷ [])
+  unfolding each
+  third-tells h k = rw (le-leb a (2 * n - 4) h, le-leb b (2 * n - 4) k) (sym (and-true (leb c (2 * n - 4))))
+    where
+      and-true : (p : Bool) → (p && true) ≡ p
+      and-true true = refl
+      and-true false = refl
 
-    pub three-rows : (m .kind ≡ 2 → ⊥) → leb (m .third) (2 * n - 4) ≡ rowsRight n m
-    unfolding rowsRight
-    three-rows h = rw (le-leb (m .first) (2 * n - 4) a, le-leb (m .second) (2 * n - 4) b, ne-eqb (m .kind) 2 h)
+  -- Three numbers of rows.
+  pub three-rows : 4 ≤ n → allRows n (a ∷ b ∷ c ∷ []) ≡ true → (a < rows n) × (b < rows n) × (c < rows n)
+  unfolding each
+  three-rows big h =
+      let top = 2 * n - 4 in
+      let bc = and-right (leb a top) (leb b top && (leb c top && true)) h in
+      let ac = and-right (leb b top) (leb c top && true) bc in (
+        omega (arith, leb-true a top (and-left (leb a top) (leb b top && (leb c top && true)) h)),
+        omega (arith, leb-true b top (and-left (leb b top) (leb c top && true) bc)),
+        omega (arith, leb-true c top (and-left (leb c top) true ac)),
+      )
 
-  -- what right row numbers tell
-  module _ (big : 4 ≤ n) (u : Usable n m) where
-    both : (leb (m .first) (2 * n - 4) && leb (m .second) (2 * n - 4)) ≡ true
-    unfolding rowsRight
-    both = and-left (leb (m .first) (2 * n - 4) && leb (m .second) (2 * n - 4)) (eqb (m .kind) 2 || leb (m .third) (2 * n - 4)) (u .rows)
-
-    pub first-row : m .first < rows n
-    first-row = omega (arith, leb-true (m .first) (2 * n - 4) (and-left (leb (m .first) (2 * n - 4)) (leb (m .second) (2 * n - 4)) both))
-
-    pub second-row : m .second < rows n
-    second-row = omega (arith, leb-true (m .second) (2 * n - 4) (and-right (leb (m .first) (2 * n - 4)) (leb (m .second) (2 * n - 4)) both))
-
-    pub third-row : (m .kind ≡ 2 → ⊥) → m .third < rows n
-    unfolding rowsRight
-    third-row d =
-        let w : (eqb (m .kind) 2 || leb (m .third) (2 * n - 4)) ≡ true
-        = and-right (leb (m .first) (2 * n - 4) && leb (m .second) (2 * n - 4)) (eqb (m .kind) 2 || leb (m .third) (2 * n - 4)) (u .rows) in
-        omega (arith, leb-true (m .third) (2 * n - 4) (ap (λ (b : Bool). b || leb (m .third) (2 * n - 4)) (sym (ne-eqb (m .kind) 2 d)) ∙ w))
+-- An SPR has two, its third number being 0.
+pub two-rows : (n a b : ℕ) → allRows n (a ∷ b ∷ 0 ∷ []) ≡ allRows n (a ∷ b ∷ [])
+unfolding each
+two-rows n a b = let z : leb 0 (2 * n - 4) ≡ true = le-leb 0 (2 * n - 4) (omega arith) in rw z
 
 -- ---- the rows of an NNI
 module _ (n : ℕ) (t : List ℕ) (e x y : ℕ) where
@@ -83,72 +69,25 @@ module _ (n : ℕ) (t : List ℕ) (e x y : ℕ) where
   nni-y h = rw (eq-eqb y e h, and-false-r (leb n (lo t e) && leb n (hi t e) && not (eqb x e)))
 
   module _ (vt : Valid n t) (le : e < rows n) (a : n ≤ lo t e) (b : x ≡ e → ⊥) (c : y ≡ e → ⊥) where
-    either-way : nniFits n t e x y ≡ (touches t x (lo t e) && touches t y (hi t e) || touches t x (hi t e) && touches t y (lo t e))
+    either-way : nniFits n t e x y ≡ (atBoth t x (lo t e) y (hi t e) || atBoth t x (hi t e) y (lo t e))
     unfolding nniFits
     either-way =
         let l : n ≤ hi t e = omega (arith, vt .order e le .0) in
         rw (le-leb n (lo t e) a, le-leb n (hi t e) l, ne-eqb x e b, ne-eqb y e c)
 
-    pub nni-one : (touches t x (lo t e) && touches t y (hi t e)) ≡ true → true ≡ nniFits n t e x y
-    nni-one h = sym (either-way ∙ ap (λ (p : Bool). p || touches t x (hi t e) && touches t y (lo t e)) h)
+    pub nni-one : atBoth t x (lo t e) y (hi t e) ≡ true → true ≡ nniFits n t e x y
+    nni-one h = sym (either-way ∙ ap (λ (p : Bool). p || atBoth t x (hi t e) y (lo t e)) h)
 
-    pub nni-other : (touches t x (lo t e) && touches t y (hi t e)) ≡ false → (touches t x (hi t e) && touches t y (lo t e)) ≡ nniFits n t e x y
-    nni-other h = sym (either-way ∙ ap (λ (p : Bool). p || touches t x (hi t e) && touches t y (lo t e)) h)
+    pub nni-other : atBoth t x (lo t e) y (hi t e) ≡ false → atBoth t x (hi t e) y (lo t e) ≡ nniFits n t e x y
+    nni-other h = sym (either-way ∙ ap (λ (p : Bool). p || atBoth t x (hi t e) y (lo t e)) h)
 
--- ---- any kind
-module _ (n : ℕ) (t : List ℕ) (m : Move) where
-  pub fits-1 : m .kind ≡ 1 → nniFits n t (m .first) (m .second) (m .third) ≡ fits n t m
-  unfolding fits
-  fits-1 h = rw (eq-eqb (m .kind) 1 h)
+-- ---- the targets of a TBR
+module _ (n : ℕ) (t : List ℕ) (a b c : ℕ) where
+  pub both-targets : target n t a (lo t a) b ≡ true → target n t a (hi t a) c ≡ targets n t a b c
+  both-targets h = rw h
 
-  pub fits-2 : m .kind ≡ 2 → not (eqb (m .first) (m .second)) ≡ fits n t m
-  unfolding fits
-  fits-2 h = rw h
-
-  pub fits-3 : (m .kind ≡ 1 → ⊥) → (m .kind ≡ 2 → ⊥)
-      → (target n t (m .first) (lo t (m .first)) (m .second) && target n t (m .first) (hi t (m .first)) (m .third)) ≡ fits n t m
-  unfolding fits
-  fits-3 a b = rw (ne-eqb (m .kind) 1 a, ne-eqb (m .kind) 2 b)
-
-  pub moves-1 : m .kind ≡ 1 → true ≡ anyMoves n t m
-  unfolding anyMoves
-  moves-1 h = rw (eq-eqb (m .kind) 1 h)
-
-  pub moves-2 : m .kind ≡ 2 → not (touches t (m .second) (endWith n t (m .first) (m .second))) ≡ anyMoves n t m
-  unfolding anyMoves
-  moves-2 h = rw h
-
-  pub moves-3 : (m .kind ≡ 1 → ⊥) → (m .kind ≡ 2 → ⊥)
-      → not (touches t (m .second) (lo t (m .first)) && touches t (m .third) (hi t (m .first))) ≡ anyMoves n t m
-  unfolding anyMoves
-  moves-3 a b = rw (ne-eqb (m .kind) 1 a, ne-eqb (m .kind) 2 b)
-
-  -- the rows of an SPR that fit are two
-  pub spr-two : m .kind ≡ 2 → fits n t m ≡ true → m .first ≡ m .second → ⊥
-  spr-two h f = eqb-false (m .first) (m .second) (not-true (eqb (m .first) (m .second)) (fits-2 h ∙ f))
-
-  -- ---- what is said
-  pub is-7 : kindRight m ≡ false → refuses 7 ≡ fitSaid n t m
-  is-7 h = sym (judged-fail (kindRight m) 7 _ tt h)
-
-  module _ (k : kindRight m ≡ true) where
-    pub is-8 : rowsRight n m ≡ false → refuses 8 ≡ fitSaid n t m
-    is-8 h = sym (judged-next (kindRight m) 7 _ tt k ∙ judged-fail (rowsRight n m) 8 _ tt h)
-
-    module _ (r : rowsRight n m ≡ true) where
-      pub is-9 : fits n t m ≡ false → refuses 9 ≡ fitSaid n t m
-      is-9 h = sym (judged-next (kindRight m) 7 _ tt k ∙ judged-next (rowsRight n m) 8 _ tt r ∙ judged-fail (fits n t m) 9 _ tt h)
-
-      module _ (f : fits n t m ≡ true) where
-        past-9 : fitSaid n t m ≡ judged (Rattle.tree.specs.Refusals._else_ (anyMoves n t m) 10 ∷ []) (tt {0})
-        past-9 = judged-next (kindRight m) 7 _ tt k ∙ judged-next (rowsRight n m) 8 _ tt r ∙ judged-next (fits n t m) 9 _ tt f
-
-        pub is-10 : anyMoves n t m ≡ false → refuses 10 ≡ fitSaid n t m
-        is-10 h = sym (past-9 ∙ judged-fail (anyMoves n t m) 10 [] tt h)
-
-        pub is-fit : anyMoves n t m ≡ true → gives (tt {0}) ≡ fitSaid n t m
-        unfolding judged
-        is-fit h = sym (past-9 ∙ judged-next (anyMoves n t m) 10 [] tt h)
+  pub no-target : target n t a (lo t a) b ≡ false → false ≡ targets n t a b c
+  no-target h = rw h
 
 -- ---- ends of a row
 pub lo-end : (n : ℕ) (t : List ℕ) (a v : ℕ) → Accepted n t → a < rows n → v ≡ lo t a → At n t a v
@@ -156,3 +95,51 @@ lo-end n t a v good l e = record { good = good; row = l; touch = ap (touches t a
 
 pub hi-end : (n : ℕ) (t : List ℕ) (a v : ℕ) → Accepted n t → a < rows n → v ≡ hi t a → At n t a v
 hi-end n t a v good l e = record { good = good; row = l; touch = ap (touches t a) e ∙ hi-touch t a }
+
+-- ---- what is said of the tests 8 to 10
+abbrev three : Bool → Bool → Bool → Plan → Said Plan
+three p q r a = judged ((p else Refusal.Row) ∷ (q else Refusal.Misfit) ∷ (r else Refusal.Idle) ∷ []) a
+
+module _ (p q r : Bool) (a : Plan) where
+  pub says-8 : p ≡ false → refuses Refusal.Row ≡ three p q r a
+  unfolding judged
+  says-8 h = rw h
+
+  pub says-9 : p ≡ true → q ≡ false → refuses Refusal.Misfit ≡ three p q r a
+  unfolding judged
+  says-9 h k = rw (h, k)
+
+  pub says-10 : p ≡ true → q ≡ true → r ≡ false → refuses Refusal.Idle ≡ three p q r a
+  unfolding judged
+  says-10 h k l = rw (h, k, l)
+
+  pub says-plan : p ≡ true → q ≡ true → r ≡ true → gives a ≡ three p q r a
+  unfolding judged
+  says-plan h k l = rw (h, k, l)
+
+-- ---- a plan from its ends
+pub plan-is : {isNni : Bool} {a : ℕ} {f f′ s s′ : Side} → f ≡ f′ → s ≡ s′
+    → _≡_ {A = Plan} (record { nni = isNni; row = a; first = f; second = s }) (record { nni = isNni; row = a; first = f′; second = s′ })
+plan-is {isNni} {a} h k = ap₂ (λ (f s : Side). record { nni = isNni; row = a; first = f; second = s }) h k
+
+-- ---- by the kind
+module _ (n : ℕ) (t : List ℕ) (m : Move) where
+  pub by-nni : m .kind ≡ 1 → nniSaid n t (m .first) (m .second) (m .third) ≡ planSaid n t m
+  unfolding judged kindRight rowsRight fits anyMoves planOf
+  by-nni e = rw e
+
+  pub by-spr : m .kind ≡ 2 → m .third ≡ 0 → sprSaid n t (m .first) (m .second) ≡ planSaid n t m
+  unfolding judged kindRight rowsRight fits anyMoves planOf
+  by-spr e z = rw (e, z)
+
+  pub by-tbr : m .kind ≡ 3 → tbrSaid n t (m .first) (m .second) (m .third) ≡ planSaid n t m
+  unfolding judged kindRight rowsRight fits anyMoves planOf
+  by-tbr e = rw e
+
+  pub spr-7 : m .kind ≡ 2 → (m .third ≡ 0 → ⊥) → refuses Refusal.Kind ≡ planSaid n t m
+  unfolding judged kindRight
+  spr-7 e d = rw (e, ne-eqb (m .third) 0 d)
+
+  pub no-kind : (m .kind ≡ 1 → ⊥) → (m .kind ≡ 2 → ⊥) → (m .kind ≡ 3 → ⊥) → refuses Refusal.Kind ≡ planSaid n t m
+  unfolding judged kindRight
+  no-kind a b c = rw (ne-eqb (m .kind) 1 a, ne-eqb (m .kind) 2 b, ne-eqb (m .kind) 3 c)

@@ -1,16 +1,20 @@
-// Whether the four bytes of a move fit a tree: refusals 7 to 10.
-ghost use Prim.Native.Nat.{_+_, _*_, _<_, _≤_};
+// Whether the four bytes of a move fit a tree, refusals 7 to 10, and the plan
+// of one that does. The kind of a move is asked for here and nowhere else.
+ghost use Prim.Native.Nat.{_*_, _<_, _≤_};
 ghost use mathlib.Core.Path.{_≡_};
-ghost use mathlib.Core.Bool.{true, _&&_};
-ghost use lib.ListN.{length};
+ghost use mathlib.Core.List.{[], _∷_};
 ghost use Rattle.taxa.specs.Most.{most};
-ghost use Rattle.tree.specs.Tree as tree_spec;
 ghost use Rattle.tree.specs.Tree.{rows};
 ghost use Rattle.tree.specs.Refusals.{Accepted};
-ghost use Rattle.sides.specs.Filled.{Sides};
+ghost use Rattle.table.specs.Rowed.{HasRow};
+ghost use Rattle.sides.specs.Filled.{Sided};
 ghost use Rattle.moves.specs.Moves as moves_spec;
-ghost use Rattle.fits.specs.Bytes.{moveOf, Usable, fittedSays, fitSaid};
-use table::Refusal;
+ghost use Rattle.moves.specs.Moves.{allRows, atBoth};
+ghost use Rattle.moves.specs.Plans as plans_spec;
+ghost use Rattle.fits.specs.Entries.{moveOf, entrySays, planSaid, nniSaid, sprSaid, tbrSaid};
+use calls::Refusal;
+use moves::Plan;
+use moves::Side;
 
 // The four bytes of a move: its kind, and three row numbers.
 #[repr(C)]
@@ -21,50 +25,37 @@ pub struct Move {
     pub third: u8,
 }
 
-// Whether the bytes of a move fit a tree.
+// What a test found: that it fits, or why not.
 pub enum Fitted {
     Fits,
     Refused(Refusal),
 }
 
-// Whether the kind is 1 to 3, and the last byte of an SPR 0.
-fn kind_right(m: Move) -> bool
-    ensures { λ b. ⌜ b ≡ moves_spec.kindRight (moveOf m) ⌝ }
-{
-    let kind = m.kind;
-    let third = m.third;
-    if kind == 1 {
-        return true;
-    }
-    if kind == 2 {
-        return third == 0;
-    }
-    kind == 3
+// What was found of a move: its plan, or why it is refused.
+pub enum Entry {
+    Opens(Plan),
+    Refused(Refusal),
 }
 
-// Whether each row number that the move uses is that of a row.
-fn rows_right(n: usize, m: Move) -> bool
+// Whether each of three numbers is that of a row.
+fn all_rows(n: usize, a: usize, b: usize, c: usize) -> bool
     requires { ⌜ (4 ≤ n) × (n ≤ most) ⌝ }
-    ensures { λ b. ⌜ b ≡ moves_spec.rowsRight n (moveOf m) ⌝ }
+    ensures { λ r. ⌜ r ≡ allRows n (a ∷ b ∷ c ∷ []) ⌝ }
 {
     let top = 2 * n - 4;
-    if top < m.first as usize {
+    if top < a {
         return false;
     }
-    if top < m.second as usize {
+    if top < b {
         return false;
     }
-    let kind = m.kind;
-    if kind == 2 {
-        return true;
-    }
-    m.third as usize <= top
+    c <= top
 }
 
 // Whether row x is at node u and row y at node v.
 fn at_both(t: &[u8], x: usize, u: usize, y: usize, v: usize) -> bool
-    requires { ⌜ (2 * x + 1 < length (now t)) × (2 * y + 1 < length (now t)) ⌝ }
-    ensures { λ b. ⌜ b ≡ (tree_spec.touches (now (t .entry)) x u && tree_spec.touches (now (t .entry)) y v) ⌝ }
+    requires { let t = now t in ⌜ (HasRow t x) × (HasRow t y) ⌝ }
+    ensures { λ b. ⌜ b ≡ atBoth (now (t .entry)) x u y v ⌝ }
 {
     if table::touches(t, x, u) {
         return table::touches(t, y, v);
@@ -94,11 +85,77 @@ fn nni_fits(n: usize, t: &[u8], e: usize, x: usize, y: usize) -> bool
     at_both(t, x, v, y, u)
 }
 
+// An end v that stays.
+fn to_stay(v: usize, b: usize) -> Side
+    ensures { λ s. ⌜ s ≡ plans_spec.toStay v b ⌝ }
+{
+    Side {
+        node: v,
+        target: b,
+        goes: false,
+    }
+}
+
+// An end v that is put onto row b, unless b touches it.
+fn to_go(t: &[u8], v: usize, b: usize) -> Side
+    requires { ⌜ HasRow (now t) b ⌝ }
+    ensures { λ s. ⌜ s ≡ plans_spec.toGo (now (t .entry)) v b ⌝ }
+{
+    Side {
+        node: v,
+        target: b,
+        goes: !table::touches(t, b, v),
+    }
+}
+
+// An NNI: refusals 8 and 9.
+fn plan_nni(n: usize, t: &[u8], e: usize, x: usize, y: usize) -> Entry
+    requires { ⌜ Accepted n (now t) ⌝ }
+    ensures { λ r. ⌜ entrySays r ≡ nniSaid n (now (t .entry)) e x y ⌝ }
+{
+    if !all_rows(n, e, x, y) {
+        return Entry::Refused(Refusal::Row);
+    }
+    if !nni_fits(n, t, e, x, y) {
+        return Entry::Refused(Refusal::Misfit);
+    }
+    Entry::Opens(Plan {
+        nni: true,
+        row: e,
+        first: to_stay(table::lo(t, e), x),
+        second: to_stay(table::hi(t, e), y),
+    })
+}
+
+// An SPR: refusals 8 to 10. The third number of an SPR is 0.
+fn plan_spr(n: usize, t: &[u8], s: &[u64], a: usize, b: usize) -> Entry
+    requires { ⌜ Sided n (now t) (now s) ⌝ }
+    ensures { λ r. ⌜ entrySays r ≡ sprSaid n (now (t .entry)) a b ⌝ }
+{
+    if !all_rows(n, a, b, 0) {
+        return Entry::Refused(Refusal::Row);
+    }
+    if a == b {
+        return Entry::Refused(Refusal::Misfit);
+    }
+    let p = walks::end_with(n, t, s, a, b);
+    let first = to_go(t, p, b);
+    if !first.goes {
+        return Entry::Refused(Refusal::Idle);
+    }
+    Entry::Opens(Plan {
+        nni: false,
+        row: a,
+        first,
+        second: to_stay(table::far(t, a, p), b),
+    })
+}
+
 // Whether row b is a target for the smaller end of row a, and row c for its
 // larger end.
 fn tbr_fits(n: usize, t: &[u8], s: &[u64], a: usize, b: usize, c: usize) -> bool
-    requires { ⌜ (Accepted n (now t)) × (Sides n (now t) (now s)) × (a < rows n) × (b < rows n) × (c < rows n) ⌝ }
-    ensures { λ r. ⌜ r ≡ (moves_spec.target n (now (t .entry)) a (tree_spec.lo (now (t .entry)) a) b && moves_spec.target n (now (t .entry)) a (tree_spec.hi (now (t .entry)) a) c) ⌝ }
+    requires { ⌜ (Sided n (now t) (now s)) × (a < rows n) × (b < rows n) × (c < rows n) ⌝ }
+    ensures { λ r. ⌜ r ≡ moves_spec.targets n (now (t .entry)) a b c ⌝ }
 {
     let u = table::lo(t, a);
     if walks::is_target(n, t, s, a, u, b) {
@@ -108,61 +165,50 @@ fn tbr_fits(n: usize, t: &[u8], s: &[u64], a: usize, b: usize, c: usize) -> bool
     false
 }
 
-// Whether the rows fit the move.
-fn rows_fit(n: usize, t: &[u8], s: &[u64], m: Move) -> bool
-    requires { ⌜ (Accepted n (now t)) × (Sides n (now t) (now s)) × (Usable n (moveOf m)) ⌝ }
-    ensures { λ b. ⌜ b ≡ moves_spec.fits n (now (t .entry)) (moveOf m) ⌝ }
+// A TBR: refusals 8 to 10.
+fn plan_tbr(n: usize, t: &[u8], s: &[u64], a: usize, b: usize, c: usize) -> Entry
+    requires { ⌜ Sided n (now t) (now s) ⌝ }
+    ensures { λ r. ⌜ entrySays r ≡ tbrSaid n (now (t .entry)) a b c ⌝ }
 {
-    let kind = m.kind;
-    let a = m.first as usize;
-    let b = m.second as usize;
-    let c = m.third as usize;
-    if kind == 1 {
-        return nni_fits(n, t, a, b, c);
+    if !all_rows(n, a, b, c) {
+        return Entry::Refused(Refusal::Row);
     }
-    if kind == 2 {
-        return a != b;
-    }
-    tbr_fits(n, t, s, a, b, c)
-}
-
-// Whether some end moves.
-fn any_moves(n: usize, t: &[u8], s: &[u64], m: Move) -> bool
-    requires { ⌜ (Accepted n (now t)) × (Sides n (now t) (now s)) × (Usable n (moveOf m)) × (moves_spec.fits n (now t) (moveOf m) ≡ true) ⌝ }
-    ensures { λ b. ⌜ b ≡ moves_spec.anyMoves n (now (t .entry)) (moveOf m) ⌝ }
-{
-    let kind = m.kind;
-    let a = m.first as usize;
-    let b = m.second as usize;
-    let c = m.third as usize;
-    if kind == 1 {
-        return true;
-    }
-    if kind == 2 {
-        let p = walks::end_with(n, t, s, a, b);
-        return !table::touches(t, b, p);
+    if !tbr_fits(n, t, s, a, b, c) {
+        return Entry::Refused(Refusal::Misfit);
     }
     let u = table::lo(t, a);
     let v = table::hi(t, a);
-    !at_both(t, b, u, c, v)
+    if at_both(t, b, u, c, v) {
+        return Entry::Refused(Refusal::Idle);
+    }
+    Entry::Opens(Plan {
+        nni: false,
+        row: a,
+        first: to_go(t, u, b),
+        second: to_go(t, v, c),
+    })
 }
 
-// Whether the bytes of a move fit a tree whose sides are s: refusals 7 to 10.
-pub fn fit_of(n: usize, t: &[u8], s: &[u64], m: Move) -> Fitted
-    requires { ⌜ (Accepted n (now t)) × (Sides n (now t) (now s)) ⌝ }
-    ensures { λ r. ⌜ fittedSays r ≡ fitSaid n (now (t .entry)) (moveOf m) ⌝ }
+// The plan of a move on a tree whose sides are s: refusals 7 to 10.
+pub fn plan_of(n: usize, t: &[u8], s: &[u64], m: Move) -> Entry
+    requires { ⌜ Sided n (now t) (now s) ⌝ }
+    ensures { λ r. ⌜ entrySays r ≡ planSaid n (now (t .entry)) (moveOf m) ⌝ }
 {
-    if !kind_right(m) {
-        return Fitted::Refused(Refusal::Kind);
+    let kind = m.kind;
+    let a = m.first as usize;
+    let b = m.second as usize;
+    let c = m.third as usize;
+    if kind == 1 {
+        return plan_nni(n, t, a, b, c);
     }
-    if !rows_right(n, m) {
-        return Fitted::Refused(Refusal::Row);
+    if kind == 2 {
+        if c == 0 {
+            return plan_spr(n, t, s, a, b);
+        }
+        return Entry::Refused(Refusal::Kind);
     }
-    if !rows_fit(n, t, s, m) {
-        return Fitted::Refused(Refusal::Misfit);
+    if kind == 3 {
+        return plan_tbr(n, t, s, a, b, c);
     }
-    if !any_moves(n, t, s, m) {
-        return Fitted::Refused(Refusal::Idle);
-    }
-    Fitted::Fits
+    Entry::Refused(Refusal::Kind)
 }

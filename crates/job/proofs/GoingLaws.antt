@@ -8,18 +8,20 @@ use native.Mathlib.Omega.{arith}
 use lib.Dec.{ltb}
 use lib.ListN.{length}
 use borrow.Author.Tests.{ltb-true, ltb-false, lt-ltb, le-ltb}
+use Rattle.calls.specs.declared.Refusal.{Refusal}
 use Rattle.taxa.specs.Sets.{pick}
 use Rattle.taxa.proofs.Bools.{either}
-use Rattle.job.specs.Job.{nothing, Outcome, next, over, stop, field, longest}
-use Rattle.job.specs.Steps.{Lent, lending, knownOf, stepped, lentThen, told, ended, stopped, toldOf}
-use Rattle.job.specs.Steps.{steppedSays, Steps}
-use Rattle.job.specs.Runs.{stateOf, first, Roomy}
+use Rattle.job.specs.Job.{nothing, Outcome, next, over, field, longest}
+use Rattle.job.specs.Steps.{Lent, lending, knownOf, stepped, told, ended, toldOf, steppedSays}
+use Rattle.job.specs.Steps.{Steps, holds, lentBy, stateOf}
+use Rattle.job.specs.Runs.{first, Roomy}
 use Rattle.job.specs.Sound.{Going, too-long, under-way}
 use Rattle.job.specs.declared.State.{State}
 use Rattle.job.specs.declared.Stepped.{Stepped}
 use Rattle.job.proofs.StateLaws.{step-13}
 use Rattle.job.proofs.SoundLaws.{sound-start, sound-next}
 use Rattle.job.proofs.StepIsField.{step-is-field, memory-roomy, memory-keeps}
+use Rattle.calls.specs.Calls.{gives, refusesAt, lentThen, refuses, tells}
 
 -- 250 bytes, 64 numbers and 8192 bytes are room for any job.
 pub room-enough : (table parts out : List ℕ) → length table ≡ 250 → length parts ≡ 64 → length out ≡ 8192
@@ -38,26 +40,26 @@ going-first job s m s-is roomy = subst (λ (x : State). Going job x m) (sym s-is
 -- Such a step is 13 or the field alone: no check of the state refuses it, and
 -- what the field gives fits.
 pub going-field : (job : List ℕ) (s : State) (m : Lent) → Going job s m
-    → stepped job s m ≡ pick (ltb longest (length job)) (stop 13 0) (field job (knownOf s m))
+    → stepped job s m ≡ pick (ltb longest (length job)) (refusesAt Refusal.Long 0) (field job (knownOf s m))
 going-field job s m (too-long l roomy) =
-    step-13 job s m l ∙ sym (ap (λ (b : Bool). pick b (stop 13 0) (field job (knownOf s m))) (lt-ltb longest (length job) l))
+    step-13 job s m l ∙ sym (ap (λ (b : Bool). pick b (refusesAt Refusal.Long 0) (field job (knownOf s m))) (lt-ltb longest (length job) l))
 going-field job s m (under-way k short sound s-is holds roomy) =
     ap (λ (x : State). stepped job x m) s-is
     ∙ step-is-field job short k sound m roomy (ap (λ (x : State). knownOf x m) (sym s-is) ∙ holds)
     ∙ ap (field job) (sym holds)
-    ∙ sym (ap (λ (b : Bool). pick b (stop 13 0) (field job (knownOf s m))) (le-ltb longest (length job) short))
+    ∙ sym (ap (λ (b : Bool). pick b (refusesAt Refusal.Long 0) (field job (knownOf s m))) (le-ltb longest (length job) short))
 
 -- And after a step past a field it goes on so.
 pub going-next : {job : List ℕ} {s t : State} {m m′ : Lent} {r : Stepped} {w : ℕ} → Going job s m
     → r ≡ Stepped.Next t w → Steps job s m r m′ → Going job t m′
 going-next {job} {s} {t} {m} {m′} {r} {w} (too-long l roomy) r-is g =
-    let e : told (t .at) (t .taxa) (t .parts) (t .moves) w ≡ stopped 13 0 =
-    sym (ap steppedSays r-is) ∙ g .says ∙ ap toldOf (step-13 job s m l) in
+    let e : gives (told t w) ≡ refusesAt Refusal.Long 0 =
+    sym (ap steppedSays r-is) ∙ g .says ∙ ap (tells toldOf) (step-13 job s m l) in
     absurd (let z : _≡_ {A = ℕ} 0 1 = cc in omega arith)
 going-next {job} {s} {t} {m} {m′} {r} {w} (under-way k short sound s-is holds roomy) r-is g = go (field job k) refl
   where
-    tells : told (t .at) (t .taxa) (t .parts) (t .moves) w ≡ toldOf (stepped job s m)
-    tells = sym (ap steppedSays r-is) ∙ g .says
+    answer : gives (told t w) ≡ tells toldOf (stepped job s m)
+    answer = sym (ap steppedSays r-is) ∙ g .says
 
     is : stepped job s m ≡ field job k
     is =
@@ -65,20 +67,19 @@ going-next {job} {s} {t} {m} {m′} {r} {w} (under-way k short sound s-is holds 
         ∙ step-is-field job short k sound m roomy (ap (λ (x : State). knownOf x m) (sym s-is) ∙ holds)
 
     go : (o : Outcome) → field job k ≡ o → Going job t m′
-    go (next k′ ls) h =
-        let says : told (t .at) (t .taxa) (t .parts) (t .moves) w ≡ toldOf (next k′ ls) = tells ∙ ap toldOf (is ∙ h) in
-        let e₁ : t .at ≡ k′ .at = cc in
-        let e₂ : t .taxa ≡ k′ .taxa = cc in
-        let e₃ : t .parts ≡ length (k′ .parts) = cc in
-        let e₄ : t .moves ≡ k′ .moves = cc in
-        let t-is : t ≡ stateOf k′ = rw (e₁, e₂, e₃, e₄) in
-        let m-is : m′ ≡ lentThen (next k′ ls) m = g .memory ∙ ap (λ (x : Outcome). lentThen x m) (is ∙ h) in
+    go (gives (next k′ ls)) h =
+        let says : gives (told t w) ≡ tells toldOf (gives (next k′ ls)) = answer ∙ ap (tells toldOf) (is ∙ h) in
+        let t-is : t ≡ stateOf k′ = cc in
+        let m-is : m′ ≡ lentBy (next k′ ls) m = g .memory ∙ ap (λ (x : Outcome). lentThen lentBy x m) (is ∙ h) in
         under-way k′ short (sound-next job k sound k′ ls h) t-is
         (ap₂ knownOf t-is m-is ∙ memory-keeps job short k sound m roomy k′ ls h)
         (subst Roomy (sym m-is) (memory-roomy job short k sound m roomy k′ ls h))
-    go over h =
-        let e : told (t .at) (t .taxa) (t .parts) (t .moves) w ≡ ended = tells ∙ ap toldOf (is ∙ h) in
+    go (gives over) h =
+        let e : gives (told t w) ≡ gives ended = answer ∙ ap (tells toldOf) (is ∙ h) in
         absurd (let z : _≡_ {A = ℕ} 0 1 = cc in omega arith)
-    go (stop r p) h =
-        let e : told (t .at) (t .taxa) (t .parts) (t .moves) w ≡ stopped r p = tells ∙ ap toldOf (is ∙ h) in
+    go (refuses r) h =
+        let e : gives (told t w) ≡ refuses r = answer ∙ ap (tells toldOf) (is ∙ h) in
+        absurd (let z : _≡_ {A = ℕ} 0 1 = cc in omega arith)
+    go (refusesAt r p) h =
+        let e : gives (told t w) ≡ refusesAt r p = answer ∙ ap (tells toldOf) (is ∙ h) in
         absurd (let z : _≡_ {A = ℕ} 0 1 = cc in omega arith)

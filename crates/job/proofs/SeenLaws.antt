@@ -8,10 +8,12 @@ use lib.Dec.{eqb, ltb, leb}
 use lib.ListN.{length, take}
 use lib.Seq.{length-take-le}
 use borrow.Author.Tests.{le-ltb, lt-ltb, lt-leb, le-leb, ne-eqb, eq-eqb}
+use Rattle.calls.specs.declared.Refusal.{Refusal}
 use Rattle.taxa.proofs.Bools.{and-false-r}
-use Rattle.tree.specs.Refusals.{_else_, Said, allSeen}
-use Rattle.tree.proofs.RefusalLaws.{judged-all, judged-next, judged-fail}
-use Rattle.job.specs.Job.{Known, over, stop, after, partsRead, seenSoFar, endStep}
+use Rattle.calls.specs.Calls.{Said, gives, refusesAt, _else_}
+use Rattle.tree.specs.Refusals.{allSeen}
+use Rattle.calls.proofs.CheckLaws.{judged-all, judged-next, judged-fail}
+use Rattle.job.specs.Job.{Known, over, after, partsRead, seenSoFar, endStep}
 use Rattle.job.specs.Steps.{lending, knownOf, Parted}
 use Rattle.job.specs.declared.State.{State}
 
@@ -53,16 +55,16 @@ module _ (s : State) (parts : List ℕ) (h : Parted s parts) where
     abbrev some : Bool
     some = leb 1 (length ys)
 
-    pub end-12 : s .parts ≡ 0 → endStep long k ≡ stop 12 long
-    end-12 e = ap (λ (x : Said (Unit {0})). after long x (λ u. over)) (judged-fail some 12 ((seenSoFar k else 16) ∷ []) (tt {0}) (lt-leb 1 (length ys) (omega (arith, count, e))))
+    pub end-12 : s .parts ≡ 0 → endStep long k ≡ refusesAt Refusal.Field long
+    end-12 e = ap (λ (x : Said (Unit {0})). after long x (λ u. gives over)) (judged-fail some Refusal.Field ((seenSoFar k else Refusal.Unseen) ∷ []) (tt {0}) (lt-leb 1 (length ys) (omega (arith, count, e))))
 
     module _ (d : s .parts ≡ 0 → ⊥) where
       read : some ≡ true
       read = le-leb 1 (length ys) (omega (arith, count, d))
 
-      pub end-16 : seenSoFar k ≡ false → endStep long k ≡ stop 16 long
+      pub end-16 : seenSoFar k ≡ false → endStep long k ≡ refusesAt Refusal.Unseen long
       end-16 e =
-          ap (λ (x : Said (Unit {0})). after long x (λ u. over)) (judged-next some 12 ((seenSoFar k else 16) ∷ []) (tt {0}) read ∙ judged-fail (seenSoFar k) 16 [] (tt {0}) e)
+          ap (λ (x : Said (Unit {0})). after long x (λ u. gives over)) (judged-next some Refusal.Field ((seenSoFar k else Refusal.Unseen) ∷ []) (tt {0}) read ∙ judged-fail (seenSoFar k) Refusal.Unseen [] (tt {0}) e)
 
-      pub end-over : seenSoFar k ≡ true → endStep long k ≡ over
-      end-over e = ap (λ (x : Said (Unit {0})). after long x (λ u. over)) (judged-all ((some else 12) ∷ (seenSoFar k else 16) ∷ []) (tt {0}) (read, (e, tt)))
+      pub end-over : seenSoFar k ≡ true → endStep long k ≡ gives over
+      end-over e = ap (λ (x : Said (Unit {0})). after long x (λ u. gives over)) (judged-all ((some else Refusal.Field) ∷ (seenSoFar k else Refusal.Unseen) ∷ []) (tt {0}) (read, (e, tt)))

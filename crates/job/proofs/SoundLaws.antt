@@ -14,7 +14,8 @@ use Rattle.taxa.proofs.Bools.{and-left, and-right, and-both}
 use Rattle.taxa.proofs.Sizes.{size-le}
 use Rattle.tree.specs.Tree.{rows}
 use Rattle.tree.specs.Splits.{splits, distBy, dist, distancesBy, distances}
-use Rattle.tree.specs.Refusals.{each, allSeen, tableChecks, Accepted, Pass}
+use Rattle.calls.specs.Calls.{Pass, gives}
+use Rattle.tree.specs.Refusals.{each, allSeen, tableChecks, Accepted}
 use Rattle.tree.proofs.Lists.{lacks-most}
 use Rattle.tree.proofs.Members.{members-count, members-is}
 use Rattle.tree.proofs.RefusalLaws.{pass-accepted}
@@ -25,12 +26,12 @@ use Rattle.rules.specs.Each.{zeros}
 use Rattle.rules.proofs.Judging.{distances-length}
 use Rattle.text.specs.Lines.{verdictLine}
 use Rattle.text.proofs.Widths.{verdict-few, saved-few}
-use Rattle.fields.specs.Fields.{complete}
 use Rattle.listing.specs.Saved.{savedOf}
 use Rattle.listing.specs.Listing.{verdictLines, moveLines}
 use Rattle.listing.proofs.SavedLaws.{saved-le}
 use Rattle.listing.proofs.LineLaws.{lines-length}
-use Rattle.job.specs.Job.{Known, nothing, next, withTaxa, withTable, withPartition, withMove, field, longest}
+use Rattle.job.specs.Job.{Known, nothing, next, withTaxa, withTable, withPartition, withMove}
+use Rattle.job.specs.Job.{field, longest}
 use Rattle.job.specs.Runs.{enough}
 use Rattle.job.specs.Sound.{Stage, at-start, at-table, past-table, Sound}
 use Rattle.job.proofs.Turns.{Turn, read-taxa, read-table, read-partition, read-move, turn}
@@ -60,7 +61,7 @@ each-more f (x ∷ ys) y h e = and-both (f x) (each f (ys ++ y ∷ [])) (and-lef
 
 -- A step past a field goes on in the job and not past its end, whatever was
 -- known before.
-pub field-forward : (job : List ℕ) (k k′ : Known) (ls : List ℕ) → field job k ≡ next k′ ls
+pub field-forward : (job : List ℕ) (k k′ : Known) (ls : List ℕ) → field job k ≡ gives (next k′ ls)
     → (k .at < k′ .at) × (k′ .at ≤ length job)
 field-forward job k k′ ls h = go (turn job k k′ ls h)
   where
@@ -149,7 +150,7 @@ module _ (job : List ℕ) (k : Known) (s : Sound job k) where
         }
 
   -- What is known after a step past a field is sound.
-  pub sound-next : (k′ : Known) (ls : List ℕ) → field job k ≡ next k′ ls → Sound job k′
+  pub sound-next : (k′ : Known) (ls : List ℕ) → field job k ≡ gives (next k′ ls) → Sound job k′
   sound-next k′ ls h = go (turn job k k′ ls h)
     where
       to : (q : Known) → k′ ≡ q → (q .at ≤ length job → Sound job q) → Sound job k′
@@ -206,7 +207,7 @@ move-lines-few n t u ys k a b hk few h =
     )
 
 -- So a step's lines fit memory for one move's.
-pub lines-few : (job : List ℕ) (k : Known) → Sound job k → k .moves ≤ longest → (k′ : Known) (ls : List ℕ) → field job k ≡ next k′ ls → length ls ≤ enough
+pub lines-few : (job : List ℕ) (k : Known) → Sound job k → k .moves ≤ longest → (k′ : Known) (ls : List ℕ) → field job k ≡ gives (next k′ ls) → length ls ≤ enough
 lines-few job k s few k′ ls h = go (turn job k k′ ls h)
   where
     none : ls ≡ [] → length ls ≤ enough

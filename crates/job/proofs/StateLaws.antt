@@ -12,16 +12,15 @@ use Rattle.taxa.specs.Most.{most}
 use Rattle.taxa.specs.Sets.{pick}
 use Rattle.taxa.proofs.Bools.{and-left, and-right, and-both, and-false-r}
 use Rattle.tree.specs.Tree.{rows}
-use Rattle.tree.specs.Refusals.{Check, _else_, Said, gives, refuses, judged}
-use Rattle.tree.proofs.RefusalLaws.{judged-next, judged-fail, gives-pass}
-use Rattle.table.specs.Says.{numberOf}
-use Rattle.table.proofs.Numbers.{number-one}
-use Rattle.table.specs.declared.Refusal.{Refusal}
-use Rattle.job.specs.Job.{Outcome, stop, after, field, longest}
-use Rattle.job.specs.Steps.{Lent, knownOf, holds, stateChecks, stateSaid, Parted, Held, fitting}
-use Rattle.job.specs.Steps.{stepped, steppedSays, Gives}
+use Rattle.calls.specs.Calls.{Check, Said, gives, refuses, judged, refusesAt, _else_}
+use Rattle.calls.proofs.CheckLaws.{judged-next, judged-fail, gives-pass}
+use Rattle.calls.specs.declared.Refusal.{Refusal}
+use Rattle.job.specs.Job.{Outcome, after, field, longest}
+use Rattle.job.specs.Steps.{Lent, knownOf, holds, stateChecks, stateSaid, Parted, Held}
+use Rattle.job.specs.Steps.{fitting, stepped, steppedSays}
 use Rattle.job.specs.declared.State.{State}
 use Rattle.job.specs.declared.Stepped.{Stepped}
+use Rattle.job.specs.Runs.{enough}
 
 -- ---- the first field, or 4 and more
 pub four-first : (at x : ℕ) → at ≡ 0 → true ≡ (eqb at 0 || leb 4 x)
@@ -68,43 +67,43 @@ module _ (s : State) (m : Lent) where
   offset = eqb (s .at) 0 || leb 4 (s .at)
 
   abbrev check-12 : Check
-  check-12 = (offset && leb (s .moves) longest) else 12
+  check-12 = (offset && leb (s .moves) longest) else Refusal.Field
 
-  pub many-taxa : most < s .taxa → refuses 1 ≡ stateSaid s m
+  pub many-taxa : most < s .taxa → refuses Refusal.Count ≡ stateSaid s m
   many-taxa h =
-      sym (judged-fail (few && leb (s .taxa) most) 1 _ tt
+      sym (judged-fail (few && leb (s .taxa) most) Refusal.Count _ tt
       (ap (λ (b : Bool). few && b) (lt-leb (s .taxa) most h) ∙ and-false-r few))
 
-  pub few-taxa : few ≡ false → refuses 1 ≡ stateSaid s m
+  pub few-taxa : few ≡ false → refuses Refusal.Count ≡ stateSaid s m
   few-taxa h =
-      sym (judged-fail (few && leb (s .taxa) most) 1 _ tt (ap (λ (b : Bool). b && leb (s .taxa) most) h))
+      sym (judged-fail (few && leb (s .taxa) most) Refusal.Count _ tt (ap (λ (b : Bool). b && leb (s .taxa) most) h))
 
   module _ (a : s .taxa ≤ most) (b : few ≡ true) where
-    past-1 : stateSaid s m ≡ judged ((holds s m else 11) ∷ check-12 ∷ []) (tt {0})
+    past-1 : stateSaid s m ≡ judged ((holds s m else Refusal.Room) ∷ check-12 ∷ []) (tt {0})
     past-1 =
-        judged-next (few && leb (s .taxa) most) 1 _ tt
+        judged-next (few && leb (s .taxa) most) Refusal.Count _ tt
         (and-both few (leb (s .taxa) most) b (le-leb (s .taxa) most a))
 
-    pub short-memory : holds s m ≡ false → refuses 11 ≡ stateSaid s m
-    short-memory h = sym (past-1 ∙ judged-fail (holds s m) 11 (check-12 ∷ []) tt h)
+    pub short-memory : holds s m ≡ false → refuses Refusal.Room ≡ stateSaid s m
+    short-memory h = sym (past-1 ∙ judged-fail (holds s m) Refusal.Room (check-12 ∷ []) tt h)
 
     module _ (d : holds s m ≡ true) where
       past-11 : stateSaid s m ≡ judged (check-12 ∷ []) (tt {0})
-      past-11 = past-1 ∙ judged-next (holds s m) 11 (check-12 ∷ []) tt d
+      past-11 = past-1 ∙ judged-next (holds s m) Refusal.Room (check-12 ∷ []) tt d
 
-      pub no-offset : offset ≡ false → refuses 12 ≡ stateSaid s m
+      pub no-offset : offset ≡ false → refuses Refusal.Field ≡ stateSaid s m
       no-offset h =
-          sym (past-11 ∙ judged-fail (offset && leb (s .moves) longest) 12 [] tt (ap (λ (c : Bool). c && leb (s .moves) longest) h))
+          sym (past-11 ∙ judged-fail (offset && leb (s .moves) longest) Refusal.Field [] tt (ap (λ (c : Bool). c && leb (s .moves) longest) h))
 
-      pub many-moves : longest < s .moves → refuses 12 ≡ stateSaid s m
+      pub many-moves : longest < s .moves → refuses Refusal.Field ≡ stateSaid s m
       many-moves h =
-          sym (past-11 ∙ judged-fail (offset && leb (s .moves) longest) 12 [] tt
+          sym (past-11 ∙ judged-fail (offset && leb (s .moves) longest) Refusal.Field [] tt
           (ap (λ (c : Bool). offset && c) (lt-leb (s .moves) longest h) ∙ and-false-r offset))
 
       pub is-right : offset ≡ true → s .moves ≤ longest → gives (tt {0}) ≡ stateSaid s m
       unfolding judged
       is-right f g =
-          sym (past-11 ∙ judged-next (offset && leb (s .moves) longest) 12 [] tt
+          sym (past-11 ∙ judged-next (offset && leb (s .moves) longest) Refusal.Field [] tt
           (and-both offset (leb (s .moves) longest) f (le-leb (s .moves) longest g)))
 
 -- ---- a state of which nothing is refused
@@ -141,30 +140,27 @@ module _ (job : List ℕ) (s : State) (m : Lent) where
   rest x = after (s .at) x (λ u. fitting (s .at) m (field job (knownOf s m)))
 
   abbrev whole : Bool → Outcome
-  whole b = pick b (stop 13 0) (rest (stateSaid s m))
+  whole b = pick b (refusesAt Refusal.Long 0) (rest (stateSaid s m))
 
-  pub step-13 : longest < length job → stepped job s m ≡ stop 13 0
+  pub step-13 : longest < length job → stepped job s m ≡ refusesAt Refusal.Long 0
   step-13 h = ap whole (lt-ltb longest (length job) h)
 
   module _ (l : length job ≤ longest) where
     past-13 : stepped job s m ≡ rest (stateSaid s m)
     past-13 = ap whole (le-ltb longest (length job) l)
 
-    pub step-refused : (k : ℕ) → stateSaid s m ≡ refuses k → stepped job s m ≡ stop k (s .at)
+    pub step-refused : (k : Refusal) → stateSaid s m ≡ refuses k → stepped job s m ≡ refusesAt k (s .at)
     step-refused k h = past-13 ∙ ap rest h
 
     pub step-next : stateSaid s m ≡ gives (tt {0}) → fitting (s .at) m (field job (knownOf s m)) ≡ stepped job s m
     step-next h = sym (past-13 ∙ ap rest h)
 
--- ---- one answer and one state of the lent memory
-stepped-one : (a b : Stepped) → steppedSays a ≡ steppedSays b → a ≡ b
+-- ---- an answer is settled by what it says
+pub stepped-one : (a b : Stepped) → steppedSays a ≡ steppedSays b → a ≡ b
 stepped-one (Stepped.Next s v) (Stepped.Next u w) h =
-    let e₁ : s .at ≡ u .at = cc in
-    let e₂ : s .taxa ≡ u .taxa = cc in
-    let e₃ : s .parts ≡ u .parts = cc in
-    let e₄ : s .moves ≡ u .moves = cc in
-    let e₅ : v ≡ w = cc in
-    rw (e₁, e₂, e₃, e₄, e₅)
+    let e : s ≡ u = cc in
+    let f : v ≡ w = cc in
+    ap₂ Stepped.Next e f
 stepped-one (Stepped.Next s v) Stepped.Ended h = absurd (let z : _≡_ {A = ℕ} 0 1 = cc in omega arith)
 stepped-one (Stepped.Next s v) (Stepped.Refused r p) h = absurd (let z : _≡_ {A = ℕ} 0 1 = cc in omega arith)
 stepped-one Stepped.Ended (Stepped.Next u w) h = absurd (let z : _≡_ {A = ℕ} 0 1 = cc in omega arith)
@@ -173,9 +169,6 @@ stepped-one Stepped.Ended (Stepped.Refused r p) h = absurd (let z : _≡_ {A = �
 stepped-one (Stepped.Refused r p) (Stepped.Next u w) h = absurd (let z : _≡_ {A = ℕ} 0 1 = cc in omega arith)
 stepped-one (Stepped.Refused r p) Stepped.Ended h = absurd (let z : _≡_ {A = ℕ} 0 1 = cc in omega arith)
 stepped-one (Stepped.Refused r p) (Stepped.Refused q w) h =
-    let e : numberOf r ≡ numberOf q = cc in
+    let e : r ≡ q = cc in
     let f : p ≡ w = cc in
-    ap₂ Stepped.Refused (number-one r q e) f
-
-pub gives-one : {o : Outcome} {a b : Stepped} {m p q : Lent} → Gives o a m p → Gives o b m q → (a ≡ b) × (p ≡ q)
-gives-one {o} {a} {b} g h = (stepped-one a b (g .says ∙ sym (h .says)), g .memory ∙ sym (h .memory))
+    ap₂ Stepped.Refused e f

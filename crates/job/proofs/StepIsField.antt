@@ -13,12 +13,12 @@ use Rattle.taxa.specs.Most.{most}
 use Rattle.taxa.specs.Sets.{pick}
 use Rattle.taxa.proofs.Bools.{and-both, or-left, or-right}
 use Rattle.tree.specs.Tree.{rows}
-use Rattle.tree.specs.Refusals.{Pass}
-use Rattle.tree.proofs.RefusalLaws.{judged-all}
-use Rattle.text.specs.Lines.{putFirst}
-use Rattle.job.specs.Job.{Known, Outcome, next, over, stop, field, longest}
-use Rattle.job.specs.Steps.{Lent, lending, knownOf, stateChecks, fitting, stepped, lentThen}
-use Rattle.job.specs.Runs.{stateOf, Roomy}
+use Rattle.calls.specs.Calls.{Pass, atStart, gives, refusesAt, refuses}
+use Rattle.calls.proofs.CheckLaws.{judged-all}
+use Rattle.job.specs.Job.{Known, Outcome, next, over, field, longest}
+use Rattle.job.specs.Steps.{Lent, lending, knownOf, stateChecks, fitting, stepped, lentBy}
+use Rattle.job.specs.Steps.{stateOf}
+use Rattle.job.specs.Runs.{Roomy}
 use Rattle.job.specs.Sound.{Stage, at-start, at-table, past-table, Sound}
 use Rattle.job.proofs.StateLaws.{step-next}
 use Rattle.job.proofs.SoundLaws.{sound-next, lines-few}
@@ -53,12 +53,13 @@ Fits m k ls =
     (length (k .table) ≤ length (m .table)) × (length (k .parts) ≤ length (m .parts)) × (length ls ≤ length (m .out))
 
 -- What fits is not refused.
-fitting-same : (at : ℕ) (m : Lent) (o : Outcome) → ((k : Known) (ls : List ℕ) → o ≡ next k ls → Fits m k ls) → fitting at m o ≡ o
-fitting-same at m (next k ls) h =
+fitting-same : (at : ℕ) (m : Lent) (o : Outcome) → ((k : Known) (ls : List ℕ) → o ≡ gives (next k ls) → Fits m k ls) → fitting at m o ≡ o
+fitting-same at m (gives (next k ls)) h =
     let f = h k ls refl in
     rw (le-leb (length (k .table)) (length (m .table)) (f .0), le-leb (length (k .parts)) (length (m .parts)) (f .1), le-leb (length ls) (length (m .out)) (f .2))
-fitting-same at m over h = refl
-fitting-same at m (stop r p) h = refl
+fitting-same at m (gives over) h = refl
+fitting-same at m (refuses r) h = refl
+fitting-same at m (refusesAt r p) h = refl
 
 -- Memory that begins with the table holds it.
 table-kept : (k : Known) (xs : List ℕ) → Stage k → pick (leb (k .at) 4) [] (take (2 * rows (k .taxa)) (k .table ++ xs)) ≡ k .table
@@ -76,7 +77,7 @@ known-kept k xs ys out s =
     (table-kept k xs s) (take-append-seam (k .parts) ys)
 
 -- A list put first that fits leaves the length.
-put-length : (l m : List ℕ) → length l ≤ length m → length (putFirst l m) ≡ length m
+put-length : (l m : List ℕ) → length l ≤ length m → length (atStart l m) ≡ length m
 put-length l m h = omega (arith, length-append l (drop (length l) m), length-drop (length l) m)
 
 module _ (job : List ℕ) (short : length job ≤ longest) where
@@ -104,7 +105,7 @@ module _ (job : List ℕ) (short : length job ≤ longest) where
         )
 
     -- What a field gives fits.
-    fits-memory : (k′ : Known) (ls : List ℕ) → field job k ≡ next k′ ls → Fits m k′ ls
+    fits-memory : (k′ : Known) (ls : List ℕ) → field job k ≡ gives (next k′ ls) → Fits m k′ ls
     fits-memory k′ ls h =
         let s′ = sound-next job k s k′ ls h in (
           omega (arith, table-few k′ (s′ .stage), roomy .for-table),
@@ -120,9 +121,9 @@ module _ (job : List ℕ) (short : length job ≤ longest) where
         ∙ ap (λ (x : Known). fitting (k .at) m (field job x)) e
         ∙ fitting-same (k .at) m (field job k) fits-memory
 
-    module _ (k′ : Known) (ls : List ℕ) (h : field job k ≡ next k′ ls) where
+    module _ (k′ : Known) (ls : List ℕ) (h : field job k ≡ gives (next k′ ls)) where
       -- After the step there is room as before.
-      pub memory-roomy : Roomy (lentThen (next k′ ls) m)
+      pub memory-roomy : Roomy (lentBy (next k′ ls) m)
       memory-roomy =
           let f = fits-memory k′ ls h in
           record {
@@ -132,7 +133,7 @@ module _ (job : List ℕ) (short : length job ≤ longest) where
           }
 
       -- And the memory holds what is known then.
-      pub memory-keeps : knownOf (stateOf k′) (lentThen (next k′ ls) m) ≡ k′
+      pub memory-keeps : knownOf (stateOf k′) (lentBy (next k′ ls) m) ≡ k′
       memory-keeps =
           known-kept k′ (drop (length (k′ .table)) (m .table)) (drop (length (k′ .parts)) (m .parts))
-          (putFirst ls (m .out)) (sound-next job k s k′ ls h .stage)
+          (atStart ls (m .out)) (sound-next job k s k′ ls h .stage)

@@ -9,18 +9,23 @@ use native.Mathlib.Omega.{arith}
 use lib.Dec.{eqb, ltb, leb}
 use lib.ListN.{length, getD}
 use borrow.Author.Tests.{eqb-true, eqb-false, ltb-true}
+use Rattle.calls.specs.declared.Refusal.{Refusal}
 use Rattle.taxa.specs.Most.{most, mostPartitions}
 use Rattle.taxa.specs.Sets.{pick, inSome}
 use Rattle.taxa.proofs.Bools.{and-left, and-right, or-cases}
 use Rattle.tree.specs.Tree.{rows}
-use Rattle.tree.specs.Refusals.{Check, _else_, judged, countChecks, tableChecks, treeChecks, partitionChecks, allSeen, partitionsChecks}
-use Rattle.tree.specs.Refusals.{Pass}
-use Rattle.tree.proofs.RefusalLaws.{pass-after}
+use Rattle.calls.specs.Calls.{Check, judged, Pass, gives, _else_}
+use Rattle.tree.specs.Refusals.{countChecks, tableChecks, treeChecks, partitionChecks, allSeen, partitionsChecks}
+use Rattle.calls.proofs.CheckLaws.{pass-after}
 use Rattle.tree.proofs.Seen.{seen-in}
 use Rattle.moves.specs.Moves.{Move, moveChecks}
-use Rattle.fields.specs.Fields.{tagAt, statedAt, contentAt, numberIn, moveIn, allowed, headed, complete, lengthChecks}
+use Rattle.fields.specs.Fields.{tagAt, statedAt, contentAt, numberIn, moveIn, allowedOf, allowed}
+use Rattle.fields.specs.Fields.{headed, complete, lengthChecks}
 use Rattle.listing.specs.Listing.{linesOf}
-use Rattle.job.specs.Job.{Known, Outcome, next, over, after, withTaxa, withTable, withPartition, withMove, taxaStep, tableStep, partitionStep, moveStep, fieldOf, seenSoFar, endStep, tagStep, field}
+use Rattle.job.specs.Job.{Known, Outcome, next, over, after, withTaxa, withTable}
+use Rattle.job.specs.Job.{withPartition, withMove, taxaStep, tableStep, partitionStep}
+use Rattle.job.specs.Job.{moveStep, taggedStep, seenSoFar, endStep, tagStep, field, fieldOf}
+use Rattle.job.specs.Job.{taggedStepOf}
 
 -- A step past a field: n, the table, a partition or a move.
 pub data Turn (job : List ℕ) (k k′ : Known) (ls : List ℕ) : Type 0 where
@@ -32,22 +37,22 @@ pub data Turn (job : List ℕ) (k k′ : Known) (ls : List ℕ) : Type 0 where
       → k′ ≡ withMove k m → ls ≡ linesOf (k .taxa) (k .table) (k .parts) m (k .moves + 1) → Turn job k k′ ls
 
 -- Checks that give an outcome other than a refusal have all passed.
-after-next : {A : Type 0} (at : ℕ) (cs : List Check) (a : A) (f : A → Outcome) (k : Known) (ls : List ℕ) → after at (judged cs a) f ≡ next k ls → Pass cs × (f a ≡ next k ls)
+after-next : {A : Type 0} (at : ℕ) (cs : List Check) (a : A) (f : A → Outcome) (k : Known) (ls : List ℕ) → after at (judged cs a) f ≡ gives (next k ls) → Pass cs × (f a ≡ gives (next k ls))
 unfolding judged
 after-next at [] a f k ls h = (tt, h)
 after-next at ((true else r) ∷ cs) a f k ls h = let w = after-next at cs a f k ls h in ((refl, w .0), w .1)
 after-next at ((false else r) ∷ cs) a f k ls h = absurd (let z : _≡_ {A = ℕ} 0 1 = cc in omega arith)
 
 -- The end of a job is no step past a field.
-not-over : (k : Known) (ls : List ℕ) → over ≡ next k ls → _≡_ {A = ℕ} 0 1
+not-over : (k : Known) (ls : List ℕ) → gives over ≡ gives (next k ls) → _≡_ {A = ℕ} 0 1
 not-over k ls h = cc
 
 -- Two equal steps past a field leave the same known.
-next-known : (a b : Known) (ls ms : List ℕ) → next a ls ≡ next b ms → b ≡ a
+next-known : (a b : Known) (ls ms : List ℕ) → gives (next a ls) ≡ gives (next b ms) → b ≡ a
 next-known a b ls ms h = cc
 
 -- Two equal steps past a field give the same lines.
-next-lines : (a b : Known) (ls ms : List ℕ) → next a ls ≡ next b ms → ms ≡ ls
+next-lines : (a b : Known) (ls ms : List ℕ) → gives (next a ls) ≡ gives (next b ms) → ms ≡ ls
 next-lines a b ls ms h = cc
 
 -- The tags that are allowed, and where.
@@ -59,7 +64,7 @@ data Tag (at parts tag : ℕ) : Type 0 where
 
 -- An allowed tag is one of these.
 allowed-tag : (at parts moves tag : ℕ) → allowed at parts moves tag ≡ true → Tag at parts tag
-unfolding allowed
+unfolding allowedOf
 allowed-tag at parts moves tag h = go (eqb at 0) (eqb at 4) (eqb parts 0) (eqb moves 0) refl refl refl h
   where
     more : (at ≡ 0 → ⊥) → (at ≡ 4 → ⊥) → (eqb tag 4 ≡ true) ⊎ ((eqb tag 3 && ltb parts mostPartitions) ≡ true) → Tag at parts tag
@@ -76,48 +81,48 @@ allowed-tag at parts moves tag h = go (eqb at 0) (eqb at 4) (eqb parts 0) (eqb m
 
 module _ (job : List ℕ) (k : Known) where
   -- Tag 1 is the step over n.
-  of-one : (tag : ℕ) → tag ≡ 1 → fieldOf job k tag ≡ taxaStep job (k .at)
-  unfolding fieldOf
-  of-one tag e = ap (fieldOf job k) e
+  of-one : (tag : ℕ) → tag ≡ 1 → taggedStep job k tag ≡ taxaStep job (k .at)
+  unfolding taggedStepOf
+  of-one tag e = ap (taggedStep job k) e
 
   -- Tag 2 is the step over the table.
-  of-two : (tag : ℕ) → tag ≡ 2 → fieldOf job k tag ≡ tableStep job (k .at) (k .taxa)
-  unfolding fieldOf
-  of-two tag e = ap (fieldOf job k) e
+  of-two : (tag : ℕ) → tag ≡ 2 → taggedStep job k tag ≡ tableStep job (k .at) (k .taxa)
+  unfolding taggedStepOf
+  of-two tag e = ap (taggedStep job k) e
 
   -- Tag 3 is the step over a partition.
-  of-three : (tag : ℕ) → tag ≡ 3 → fieldOf job k tag ≡ partitionStep job k
-  unfolding fieldOf
-  of-three tag e = ap (fieldOf job k) e
+  of-three : (tag : ℕ) → tag ≡ 3 → taggedStep job k tag ≡ partitionStep job k
+  unfolding taggedStepOf
+  of-three tag e = ap (taggedStep job k) e
 
   -- Tag 4 is the step over a move.
-  of-four : (tag : ℕ) → tag ≡ 4 → fieldOf job k tag ≡ moveStep job k
-  unfolding fieldOf
-  of-four tag e = ap (fieldOf job k) e
+  of-four : (tag : ℕ) → tag ≡ 4 → taggedStep job k tag ≡ moveStep job k
+  unfolding taggedStepOf
+  of-four tag e = ap (taggedStep job k) e
 
   -- A step past a field finds an allowed tag and goes by it.
-  field-next : (k′ : Known) (ls : List ℕ) → field job k ≡ next k′ ls
-      → (allowed (k .at) (length (k .parts)) (k .moves) (tagAt job (k .at)) ≡ true) × (fieldOf job k (tagAt job (k .at)) ≡ next k′ ls)
-  unfolding field
+  field-next : (k′ : Known) (ls : List ℕ) → field job k ≡ gives (next k′ ls)
+      → (allowed (k .at) (length (k .parts)) (k .moves) (tagAt job (k .at)) ≡ true) × (taggedStep job k (tagAt job (k .at)) ≡ gives (next k′ ls))
+  unfolding fieldOf
   field-next k′ ls h = go (leb (length job) (k .at)) h
     where
       tag : ℕ
       tag = tagAt job (k .at)
 
-      go : (a : Bool) → pick a (endStep (length job) k) (tagStep job k tag) ≡ next k′ ls
-          → (allowed (k .at) (length (k .parts)) (k .moves) tag ≡ true) × (fieldOf job k tag ≡ next k′ ls)
+      go : (a : Bool) → pick a (endStep (length job) k) (tagStep job k tag) ≡ gives (next k′ ls)
+          → (allowed (k .at) (length (k .parts)) (k .moves) tag ≡ true) × (taggedStep job k tag ≡ gives (next k′ ls))
       go true w =
-          let p = after-next (length job) ((leb 1 (length (k .parts)) else 12) ∷ (seenSoFar k else 16) ∷ []) (tt {0}) (λ (u : Unit {0}). over) k′ ls w in
+          let p = after-next (length job) ((leb 1 (length (k .parts)) else Refusal.Field) ∷ (seenSoFar k else Refusal.Unseen) ∷ []) (tt {0}) (λ (u : Unit {0}). gives over) k′ ls w in
           absurd (let z : _≡_ {A = ℕ} 0 1 = not-over k′ ls (p .1) in omega arith)
       go false w =
-          let p = after-next (k .at) (((eqb tag 3 || seenSoFar k) else 16) ∷ (allowed (k .at) (length (k .parts)) (k .moves) tag else 12) ∷ []) (tt {0}) (λ (u : Unit {0}). fieldOf job k tag) k′ ls w in
+          let p = after-next (k .at) (((eqb tag 3 || seenSoFar k) else Refusal.Unseen) ∷ (allowed (k .at) (length (k .parts)) (k .moves) tag else Refusal.Field) ∷ []) (tt {0}) (λ (u : Unit {0}). taggedStep job k tag) k′ ls w in
           (p .0 .1 .0, p .1)
 
   -- Every step past a field is one of the four.
-  pub turn : (k′ : Known) (ls : List ℕ) → field job k ≡ next k′ ls → Turn job k k′ ls
+  pub turn : (k′ : Known) (ls : List ℕ) → field job k ≡ gives (next k′ ls) → Turn job k k′ ls
   turn k′ ls h = go (allowed-tag (k .at) (length (k .parts)) (k .moves) tag (w .0))
     where
-      w : (allowed (k .at) (length (k .parts)) (k .moves) (tagAt job (k .at)) ≡ true) × (fieldOf job k (tagAt job (k .at)) ≡ next k′ ls)
+      w : (allowed (k .at) (length (k .parts)) (k .moves) (tagAt job (k .at)) ≡ true) × (taggedStep job k (tagAt job (k .at)) ≡ gives (next k′ ls))
       w = field-next k′ ls h
 
       tag : ℕ
@@ -129,29 +134,29 @@ module _ (job : List ℕ) (k : Known) where
       go : Tag (k .at) (length (k .parts)) tag → Turn job k k′ ls
       go (one a e) =
           let n = getD job (k .at + 3) 0 in
-          let p = after-next (k .at) (lengthChecks job (k .at) 1 ++ countChecks n) n (λ (x : ℕ). next (withTaxa (k .at) x) []) k′ ls (sym (of-one tag e) ∙ w .1) in
+          let p = after-next (k .at) (lengthChecks job (k .at) 1 ++ countChecks n) n (λ (x : ℕ). gives (next (withTaxa (k .at) x) [])) k′ ls (sym (of-one tag e) ∙ w .1) in
           read-taxa n a (whole 1 (p .0 .0)) (p .0 .1 .0) (next-known (withTaxa (k .at) n) k′ [] ls (p .1)) (next-lines (withTaxa (k .at) n) k′ [] ls (p .1))
       go (two a e) =
           let n = k .taxa in
           let t = contentAt job (k .at) (2 * rows n) in
-          let p = after-next (k .at) ((headed job (k .at) else 12) ∷ (eqb (statedAt job (k .at)) (2 * rows n) else 2) ∷ (complete job (k .at) (2 * rows n) else 12) ∷ tableChecks n t) t
-          (λ (x : List ℕ). next (withTable (k .at) n x) []) k′ ls (sym (of-two tag e) ∙ w .1) in
+          let p = after-next (k .at) ((headed job (k .at) else Refusal.Field) ∷ (eqb (statedAt job (k .at)) (2 * rows n) else Refusal.Length) ∷ (complete job (k .at) (2 * rows n) else Refusal.Field) ∷ tableChecks n t) t
+          (λ (x : List ℕ). gives (next (withTable (k .at) n x) [])) k′ ls (sym (of-two tag e) ∙ w .1) in
           read-table t a (p .0 .1 .1 .0) (p .0 .1 .1 .1) (next-known (withTable (k .at) n t) k′ [] ls (p .1)) (next-lines (withTable (k .at) n t) k′ [] ls (p .1))
       go (three a b c e) =
           let y = numberIn (contentAt job (k .at) 8) in
-          let p = after-next (k .at) (lengthChecks job (k .at) 8 ++ partitionChecks (k .taxa) y) y (λ (x : ℕ). next (withPartition k x) []) k′ ls (sym (of-three tag e) ∙ w .1) in
+          let p = after-next (k .at) (lengthChecks job (k .at) 8 ++ partitionChecks (k .taxa) y) y (λ (x : ℕ). gives (next (withPartition k x) [])) k′ ls (sym (of-three tag e) ∙ w .1) in
           read-partition y a b c (whole 8 (p .0 .0)) (p .0 .1 .0) (next-known (withPartition k y) k′ [] ls (p .1)) (next-lines (withPartition k y) k′ [] ls (p .1))
       go (four a b e) =
           let m = moveIn (contentAt job (k .at) 4) in
           let cs = partitionsChecks (k .taxa) (k .parts) ++ moveChecks (k .taxa) (k .table) m in
           let lines = linesOf (k .taxa) (k .table) (k .parts) m (k .moves + 1) in
           let p = after-next (k .at) (lengthChecks job (k .at) 4 ++ treeChecks (k .taxa) (k .table) ++ partitionsChecks (k .taxa) (k .parts) ++ moveChecks (k .taxa) (k .table) m) m
-          (λ (x : Move). next (withMove k x) (linesOf (k .taxa) (k .table) (k .parts) x (k .moves + 1))) k′ ls (sym (of-four tag e) ∙ w .1) in
+          (λ (x : Move). gives (next (withMove k x) (linesOf (k .taxa) (k .table) (k .parts) x (k .moves + 1)))) k′ ls (sym (of-four tag e) ∙ w .1) in
           let q = pass-after (treeChecks (k .taxa) (k .table)) cs (p .0 .1) in
           read-move m a b (whole 4 (p .0 .0)) (q .1 .0) (q .1 .1) (next-known (withMove k m) k′ lines ls (p .1)) (next-lines (withMove k m) k′ lines ls (p .1))
 
   -- Where a field gives lines, each taxon is in a partition.
-  pub field-seen : (k′ : Known) (ls : List ℕ) → field job k ≡ next k′ ls → (ls ≡ [] → ⊥) → (i : ℕ) → i < k .taxa → inSome (k .parts) i ≡ true
+  pub field-seen : (k′ : Known) (ls : List ℕ) → field job k ≡ gives (next k′ ls) → (ls ≡ [] → ⊥) → (i : ℕ) → i < k .taxa → inSome (k .parts) i ≡ true
   field-seen k′ ls h some i l = go (turn k′ ls h)
     where
       go : Turn job k k′ ls → inSome (k .parts) i ≡ true

@@ -5,15 +5,12 @@ use mathlib.Core.List.{List, []}
 use lib.ListN.{length}
 use Rattle.taxa.specs.Most.{most, mostPartitions}
 use Rattle.tree.specs.Tree.{rows}
-use Rattle.job.specs.Job.{Known, linesAfter}
-use Rattle.job.specs.Steps.{Lent, stepped, lentThen}
+use Rattle.calls.specs.Calls.{lentThen}
+use Rattle.job.specs.Job.{linesAfter}
+use Rattle.job.specs.Steps.{Lent, stepped, stateOf, lentBy}
 use Rattle.job.specs.declared.State.{State}
 
--- The state that a step answers with.
-abbrev pub stateOf : Known → State
-stateOf k =
-    record { at = k .at; taxa = k .taxa; parts = length (k .parts); moves = k .moves }
-
+-- The state before the first field.
 abbrev pub first : State
 first = record { at = 0; taxa = 0; parts = 0; moves = 0 }
 
@@ -22,7 +19,7 @@ unfoldable pub run : ℕ → List ℕ → State → Lent → List ℕ
 run zero job s m = []
 run (suc f) job s m =
     let o = stepped job s m in
-    linesAfter (s .moves) o (λ k. run f job (stateOf k) (lentThen o m))
+    linesAfter (s .moves) o (λ k. run f job (stateOf k) (lentThen lentBy o m))
 
 -- The most bytes of one move's lines in a job.
 abbrev pub enough : ℕ

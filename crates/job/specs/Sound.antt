@@ -9,8 +9,8 @@ use Rattle.taxa.specs.Most.{most, mostPartitions}
 use Rattle.tree.specs.Refusals.{each, allSeen, Accepted}
 use Rattle.text.specs.Lines.{endLine, refusedLine}
 use Rattle.job.specs.Job.{Known, nothing, longest}
-use Rattle.job.specs.Steps.{Lent, knownOf}
-use Rattle.job.specs.Runs.{stateOf, Roomy}
+use Rattle.job.specs.Steps.{Lent, knownOf, stateOf}
+use Rattle.job.specs.Runs.{Roomy}
 use Rattle.job.specs.declared.State.{State}
 
 -- Before n, between n and the table, and after the table.

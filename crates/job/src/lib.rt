@@ -7,19 +7,22 @@ ghost use lib.Dec.{eqb, leb};
 ghost use lib.ListN.{length, take, drop};
 ghost use Rattle.taxa.specs.Most.{most};
 ghost use Rattle.tree.specs.Tree.{rows};
-ghost use Rattle.fits.specs.Bytes.{moveOf, fittedSays};
+ghost use Rattle.calls.specs.Calls.{refusesAt, tells};
+ghost use Rattle.calls.specs.declared.Refusal.the-variants as refusal;
+ghost use Rattle.fits.specs.Entries.{moveOf, fittedSays};
 ghost use Rattle.fields.specs.Fields as fields_spec;
 ghost use Rattle.fields.specs.Fields.{tagAt, moveIn};
 ghost use Rattle.job.specs.Job.{taxaStep, tableStep, keptStep, putStep, partitionStep, moveStep};
-ghost use Rattle.job.specs.Job.{fieldOf, seenSoFar, endStep, field, longest};
+ghost use Rattle.job.specs.Job.{taggedStep, seenSoFar, endStep, field, longest};
 ghost use Rattle.job.specs.Runs.{first};
-ghost use Rattle.job.specs.Steps.{lending, knownOf, holds, stateSaid, fitting};
-ghost use Rattle.job.specs.Steps.{steppedSays, stopped, toldOf, Gives, Steps, Parted, Held};
+ghost use Rattle.job.specs.Steps.{lending, tableLent, partsLent, knownOf, holds};
+ghost use Rattle.job.specs.Steps.{stateSaid, fitting, steppedSays, toldOf, Gives, Steps};
+ghost use Rattle.job.specs.Steps.{Parted, Held};
+use calls::Refusal;
 use fits::Fitted;
 use fits::Move;
 use listing::Lines;
 use table::Checked;
-use table::Refusal;
 
 // The most bytes in a job.
 const LONGEST: usize = 65535;
@@ -65,7 +68,7 @@ pub fn start() -> State
 // Tag 1: n.
 fn read_taxa(job: &[u8], at: usize) -> Stepped
     requires { ⌜ at < length (now job) ⌝ }
-    ensures { λ r. ⌜ steppedSays r ≡ toldOf (taxaStep (now (job .entry)) at) ⌝ }
+    ensures { λ r. ⌜ steppedSays r ≡ tells toldOf (taxaStep (now (job .entry)) at) ⌝ }
 {
     if !fields::length_right(job, at, 1) {
         return Stepped::Refused {
@@ -101,7 +104,9 @@ fn read_taxa(job: &[u8], at: usize) -> Stepped
 // where it does not fit.
 fn put_table(at: usize, n: usize, t: &[u8], table: &mut [u8]) -> Stepped
     requires { ⌜ (at ≤ longest) × (length (now t) ≤ longest) ⌝ }
-    ensures { λ r. ⌜ Gives (fitting at (lending (now (table .entry)) [] []) (putStep at n (now (t .entry)))) r (lending (now (table .entry)) [] []) (lending (now (table .exit)) [] []) ⌝ }
+    ensures { λ r.
+        let m = tableLent (now (table .entry)) in
+        ⌜ Gives (fitting at m (putStep at n (now (t .entry)))) r m (tableLent (now (table .exit))) ⌝ }
 {
     if table.len() < t.len() {
         return Stepped::Refused {
@@ -125,7 +130,9 @@ fn put_table(at: usize, n: usize, t: &[u8], table: &mut [u8]) -> Stepped
 // to 5, then 11.
 fn keep_table(at: usize, n: usize, t: &[u8], table: &mut [u8]) -> Stepped
     requires { ⌜ (at ≤ longest) × (4 ≤ n) × (n ≤ most) × (length (now t) ≡ 2 * rows n) ⌝ }
-    ensures { λ r. ⌜ Gives (fitting at (lending (now (table .entry)) [] []) (keptStep at n (now (t .entry)))) r (lending (now (table .entry)) [] []) (lending (now (table .exit)) [] []) ⌝ }
+    ensures { λ r.
+        let m = tableLent (now (table .entry)) in
+        ⌜ Gives (fitting at m (keptStep at n (now (t .entry)))) r m (tableLent (now (table .exit))) ⌝ }
 {
     let answer = sides::check_tree(n, t);
     match answer {
@@ -136,8 +143,10 @@ fn keep_table(at: usize, n: usize, t: &[u8], table: &mut [u8]) -> Stepped
 
 // Tag 2: the table.
 fn read_table(job: &[u8], at: usize, n: usize, table: &mut [u8]) -> Stepped
-    requires { ⌜ (at < length (now job)) × (length (now job) ≤ longest) × (4 ≤ n) × (n ≤ most) ⌝ }
-    ensures { λ r. ⌜ Gives (fitting at (lending (now (table .entry)) [] []) (tableStep (now (job .entry)) at n)) r (lending (now (table .entry)) [] []) (lending (now (table .exit)) [] []) ⌝ }
+    requires { let l = length (now job) in ⌜ (at < l) × (l ≤ longest) × (4 ≤ n) × (n ≤ most) ⌝ }
+    ensures { λ r.
+        let m = tableLent (now (table .entry)) in
+        ⌜ Gives (fitting at m (tableStep (now (job .entry)) at n)) r m (tableLent (now (table .exit))) ⌝ }
 {
     let rest = job.len() - at;
     if rest < 3 {
@@ -165,8 +174,12 @@ fn read_table(job: &[u8], at: usize, n: usize, table: &mut [u8]) -> Stepped
 
 // Tag 3: a partition.
 fn read_partition(job: &[u8], s: State, parts: &mut [u64]) -> Stepped
-    requires { ⌜ (s .at < length (now job)) × (4 ≤ s .taxa) × (s .taxa ≤ most) × (s .parts ≤ length (now parts)) ⌝ }
-    ensures { λ r. ⌜ Gives (fitting (s .at) (lending [] (now (parts .entry)) []) (partitionStep (now (job .entry)) (knownOf s (lending [] (now (parts .entry)) [])))) r (lending [] (now (parts .entry)) []) (lending [] (now (parts .exit)) []) ⌝ }
+    requires { ⌜ (s .at < length (now job)) × (4 ≤ s .taxa) × (s .taxa ≤ most)
+        × (s .parts ≤ length (now parts)) ⌝ }
+    ensures { λ r.
+        let m = partsLent (now (parts .entry)) in
+        let o = partitionStep (now (job .entry)) (knownOf s m) in
+        ⌜ Gives (fitting (s .at) m o) r m (partsLent (now (parts .exit))) ⌝ }
 {
     let at = s.at;
     let n = s.taxa;
@@ -220,8 +233,13 @@ fn move_in(job: &[u8], from: usize) -> Move
 
 // Tag 4: a move, on the tree the last left, and its lines.
 fn read_move(job: &[u8], s: State, table: &mut [u8], parts: &[u64], out: &mut [u8]) -> Stepped
-    requires { ⌜ (s .at < length (now job)) × (4 < s .at) × (Held s (lending (now table) (now parts) (now out))) ⌝ }
-    ensures { λ r. ⌜ Gives (fitting (s .at) (lending (now (table .entry)) (now (parts .entry)) (now (out .entry))) (moveStep (now (job .entry)) (knownOf s (lending (now (table .entry)) (now (parts .entry)) (now (out .entry)))))) r (lending (now (table .entry)) (now (parts .entry)) (now (out .entry))) (lending (now (table .exit)) (now (parts .entry)) (now (out .exit))) ⌝ }
+    requires { ⌜ (s .at < length (now job)) × (4 < s .at)
+        × (Held s (lending (now table) (now parts) (now out))) ⌝ }
+    ensures { λ r.
+        let ys = now (parts .entry) in
+        let m = lending (now (table .entry)) ys (now (out .entry)) in
+        let o = moveStep (now (job .entry)) (knownOf s m) in
+        ⌜ Gives (fitting (s .at) m o) r m (lending (now (table .exit)) ys (now (out .exit))) ⌝ }
 {
     let at = s.at;
     let n = s.taxa;
@@ -251,8 +269,17 @@ fn read_move(job: &[u8], s: State, table: &mut [u8], parts: &[u64], out: &mut [u
 
 // The field with an allowed tag.
 fn read_field(job: &[u8], s: State, table: &mut [u8], parts: &mut [u64], out: &mut [u8]) -> Stepped
-    requires { ⌜ (s .at < length (now job)) × (length (now job) ≤ longest) × (Held s (lending (now table) (now parts) (now out))) × (fields_spec.allowed (s .at) (s .parts) (s .moves) (tagAt (now job) (s .at)) ≡ true) ⌝ }
-    ensures { λ r. ⌜ Gives (fitting (s .at) (lending (now (table .entry)) (now (parts .entry)) (now (out .entry))) (fieldOf (now (job .entry)) (knownOf s (lending (now (table .entry)) (now (parts .entry)) (now (out .entry)))) (tagAt (now (job .entry)) (s .at)))) r (lending (now (table .entry)) (now (parts .entry)) (now (out .entry))) (lending (now (table .exit)) (now (parts .exit)) (now (out .exit))) ⌝ }
+    requires { let b = now job in
+        let at = s .at in
+        ⌜ (at < length b) × (length b ≤ longest)
+        × (Held s (lending (now table) (now parts) (now out)))
+        × (fields_spec.allowed at (s .parts) (s .moves) (tagAt b at) ≡ true) ⌝ }
+    ensures { λ r.
+        let b = now (job .entry) in
+        let m = lending (now (table .entry)) (now (parts .entry)) (now (out .entry)) in
+        let at = s .at in
+        let o = fitting at m (taggedStep b (knownOf s m) (tagAt b at)) in
+        ⌜ Gives o r m (lending (now (table .exit)) (now (parts .exit)) (now (out .exit))) ⌝ }
 {
     let at = s.at;
     let tag = job[at];
@@ -272,7 +299,7 @@ fn read_field(job: &[u8], s: State, table: &mut [u8], parts: &mut [u64], out: &m
 // taxon is in one.
 fn seen_so_far(s: State, parts: &[u64]) -> bool
     requires { ⌜ Parted s (now parts) ⌝ }
-    ensures { λ r. ⌜ r ≡ seenSoFar (knownOf s (lending [] (now (parts .entry)) [])) ⌝ }
+    ensures { λ r. ⌜ r ≡ seenSoFar (knownOf s (partsLent (now (parts .entry)))) ⌝ }
 {
     if s.at <= 4 {
         return true;
@@ -283,12 +310,12 @@ fn seen_so_far(s: State, parts: &[u64]) -> bool
     if s.moves != 0 {
         return true;
     }
-    judge::all_seen(s.taxa, &parts[..s.parts])
+    door::all_seen(s.taxa, &parts[..s.parts])
 }
 
 // Refusal 16 at a place.
 fn unseen(place: usize) -> Stepped
-    ensures { λ r. ⌜ steppedSays r ≡ stopped 16 place ⌝ }
+    ensures { λ r. ⌜ steppedSays r ≡ refusesAt refusal.Unseen place ⌝ }
 {
     Stepped::Refused {
         why: Refusal::Unseen,
@@ -299,7 +326,9 @@ fn unseen(place: usize) -> Stepped
 // The end of a job of so many bytes.
 fn read_end(long: usize, s: State, parts: &[u64]) -> Stepped
     requires { ⌜ Parted s (now parts) ⌝ }
-    ensures { λ r. ⌜ steppedSays r ≡ toldOf (endStep long (knownOf s (lending [] (now (parts .entry)) []))) ⌝ }
+    ensures { λ r.
+        let k = knownOf s (partsLent (now (parts .entry))) in
+        ⌜ steppedSays r ≡ tells toldOf (endStep long k) ⌝ }
 {
     if s.parts == 0 {
         return Stepped::Refused {
@@ -316,7 +345,7 @@ fn read_end(long: usize, s: State, parts: &[u64]) -> Stepped
 // Whether 16 is not given at a field with this tag.
 fn seen_before(tag: u8, s: State, parts: &[u64]) -> bool
     requires { ⌜ Parted s (now parts) ⌝ }
-    ensures { λ r. ⌜ r ≡ (eqb tag 3 || seenSoFar (knownOf s (lending [] (now (parts .entry)) []))) ⌝ }
+    ensures { λ r. ⌜ r ≡ (eqb tag 3 || seenSoFar (knownOf s (partsLent (now (parts .entry))))) ⌝ }
 {
     if tag != 3 {
         return seen_so_far(s, parts);
@@ -328,7 +357,10 @@ fn seen_before(tag: u8, s: State, parts: &[u64]) -> bool
 // is given before it, and whether its tag is allowed.
 fn read_next(job: &[u8], s: State, table: &mut [u8], parts: &mut [u64], out: &mut [u8]) -> Stepped
     requires { ⌜ (length (now job) ≤ longest) × (Held s (lending (now table) (now parts) (now out))) ⌝ }
-    ensures { λ r. ⌜ Gives (fitting (s .at) (lending (now (table .entry)) (now (parts .entry)) (now (out .entry))) (field (now (job .entry)) (knownOf s (lending (now (table .entry)) (now (parts .entry)) (now (out .entry)))))) r (lending (now (table .entry)) (now (parts .entry)) (now (out .entry))) (lending (now (table .exit)) (now (parts .exit)) (now (out .exit))) ⌝ }
+    ensures { λ r.
+        let m = lending (now (table .entry)) (now (parts .entry)) (now (out .entry)) in
+        let o = fitting (s .at) m (field (now (job .entry)) (knownOf s m)) in
+        ⌜ Gives o r m (lending (now (table .exit)) (now (parts .exit)) (now (out .exit))) ⌝ }
 {
     let at = s.at;
     if job.len() <= at {
@@ -413,7 +445,10 @@ fn state_right(s: State, table: &[u8], parts: &[u64]) -> Fitted
 // table and the partitions read so far are in the lent memory; a move's lines
 // are written at the start of out.
 pub fn step(job: &[u8], s: State, table: &mut [u8], parts: &mut [u64], out: &mut [u8]) -> Stepped
-    ensures { λ r. ⌜ Steps (now (job .entry)) s (lending (now (table .entry)) (now (parts .entry)) (now (out .entry))) r (lending (now (table .exit)) (now (parts .exit)) (now (out .exit))) ⌝ }
+    ensures { λ r.
+        let m = lending (now (table .entry)) (now (parts .entry)) (now (out .entry)) in
+        let m′ = lending (now (table .exit)) (now (parts .exit)) (now (out .exit)) in
+        ⌜ Steps (now (job .entry)) s m r m′ ⌝ }
 {
     if LONGEST < job.len() {
         return Stepped::Refused {

@@ -1,53 +1,82 @@
--- The groups that the code lists give the distance of the trees before and
--- after the move. Assumes nothing.
+-- The groups on the two sides of a plan: what they ask for, and that the
+-- numbers from them are the distances of the trees before and after the move.
+-- Assumes nothing.
 use mathlib.Core.Path.{_≡_, sym, ap, ap₂, _∙_}
-use mathlib.Core.Bool.{true}
+use mathlib.Core.Bool.{true, false}
 use mathlib.Core.List.{List, _++_}
-use Prim.Native.Nat.{ℕ, _^_, _<_}
+use Prim.Native.Nat.{ℕ, _^_, _≤_, _<_}
 use native.Mathlib.Omega.{arith}
-use lib.Dec.{eqb, ltb}
-use lib.ListN.{drop}
-use borrow.Author.Tests.{eq-eqb, ne-eqb}
-use Rattle.taxa.specs.Sets.{pick}
-use Rattle.tree.specs.Tree.{lo, hi}
+use lib.Dec.{ltb}
+use lib.ListN.{length, take, drop, length-append}
+use lib.Seq.{take-append-seam}
+use borrow.Author.Tests.{le-ltb}
 use Rattle.tree.specs.Splits.{dist, distances}
-use Rattle.tree.specs.Refusals.{each, Accepted, Pass}
-use Rattle.moves.specs.Moves.{Move, moved, moveChecks}
-use Rattle.moves.specs.Groups.{stayed, nniRule, sprRule, tbrRule, moveRule}
-use Rattle.moves.proofs.GroupLists.{met-append}
-use Rattle.moves.proofs.Moved.{Passed, by-nni, by-spr, by-tbr, passed, moved-dist, rule-nni, rule-spr, rule-tbr}
-use Rattle.rules.specs.Each.{byGroups, zeros, Judges}
+use Rattle.tree.specs.Refusals.{each}
+use Rattle.moves.specs.Groups.{stayed}
+use Rattle.moves.specs.Plans.{planMoved, sideGroups, byGroups}
+use Rattle.moves.specs.declared.Side.{Side}
+use Rattle.moves.specs.declared.Plan.{Plan}
+use Rattle.moves.proofs.Plans.{PlanRight, plan-right, plan-dist}
+use Rattle.rewrite.specs.Asked.{Rewrites}
+use Rattle.walks.specs.Way.{Asked, Listed, room}
+use Rattle.rules.specs.Each.{zeros, Few, Judges}
 use Rattle.rules.proofs.Judging.{mapped-distances, distances-length}
-use Rattle.judge.specs.Promises.{Told, firstGroups, secondGroups}
+use Rattle.door.specs.Entered.{Ready}
+use Rattle.judge.specs.Promises.{Told}
 
-module _ (n : ℕ) (t : List ℕ) (m : Move) (good : Accepted n t) (fit : Pass (moveChecks n t m)) where
-  -- the groups on the two sides give the papers' distance
-  by-rule : (y : ℕ) → byGroups (eqb (m .kind) 1) (firstGroups n t m) (secondGroups n t m) y ≡ moveRule n t m y
-  unfolding nniRule sprRule tbrRule
-  by-rule y = go (passed n t m (good .valid .big) fit)
-    where
-      go : Passed n t m → byGroups (eqb (m .kind) 1) (firstGroups n t m) (secondGroups n t m) y ≡ moveRule n t m y
-      go (by-nni p) =
-          rw (eq-eqb (m .kind) 1 (p .kind-is))
-          (sym (rule-nni n t m y (p .kind-is) ∙ ap (λ (k : ℕ). pick (eqb k 4) 2 0) (met-append y (stayed n t (m .first) (lo t (m .first))) (stayed n t (m .first) (hi t (m .first))))))
-      go (by-spr p) =
-          rw (ne-eqb (m .kind) 1 (λ e. omega (arith, e, p .kind-is)), eq-eqb (m .kind) 2 (p .kind-is))
-          (sym (rule-spr n t m y (p .kind-is)))
-      go (by-tbr p) =
-          rw (ne-eqb (m .kind) 1 (λ e. omega (arith, e, p .kind-is)), ne-eqb (m .kind) 2 (λ e. omega (arith, e, p .kind-is)))
-          (sym (rule-tbr n t m y (p .kind-is)))
+-- a list at the start of a lent one
+module _ {m : ℕ} {gs out out′ : List ℕ} {k : ℕ} (l : Listed m gs out k out′) where
+  pub listed-take : take k out′ ≡ gs
+  listed-take =
+      ap (take k) (l .memory) ∙ ap (λ (j : ℕ). take j (gs ++ drop k out)) (l .count) ∙ take-append-seam gs (drop k out)
 
-  pub by-groups : (y : ℕ) → y < 2 ^ n → byGroups (eqb (m .kind) 1) (firstGroups n t m) (secondGroups n t m) y ≡ dist n t (moved n t m) y
-  by-groups y bound = by-rule y ∙ sym (moved-dist n t m (good .valid) fit y bound)
+  pub listed-within : k ≤ length out′
+  listed-within = omega (arith, l .count, ap length (l .memory), length-append gs (drop k out))
 
-  -- the same for a list of partitions, gs and hs being the groups
-  pub told-of : (ys out out′ : List ℕ) (r : ℕ) → each (λ y. ltb y (2 ^ n)) ys ≡ true → (gs hs : List ℕ) → gs ≡ firstGroups n t m → hs ≡ secondGroups n t m
-      → Judges (byGroups (eqb (m .kind) 1) gs hs) ys out r out′ → Told (distances n t (moved n t m) ys) out r out′
-  told-of ys out out′ r all gs hs g h J =
-      let by : (y : ℕ) → y < 2 ^ n → byGroups (eqb (m .kind) 1) gs hs y ≡ dist n t (moved n t m) y
-      = λ y l. ap₂ (λ (x z : List ℕ). byGroups (eqb (m .kind) 1) x z y) g h ∙ by-groups y l in
-      let e = mapped-distances (byGroups (eqb (m .kind) 1) gs hs) n t (moved n t m) ys all by in
-      record {
-        count = J .count ∙ ap zeros e;
-        memory = J .memory ∙ ap₂ (λ (l : List ℕ) (k : ℕ). l ++ drop k out) e (sym (distances-length n t (moved n t m) ys));
-      }
+-- an inner node that stays has two groups
+inner-two : (n : ℕ) (t : List ℕ) (a : ℕ) (s : Side) → n ≤ s .node → s .goes ≡ false → length (sideGroups n t a s) ≡ 2
+unfolding sideGroups stayed
+inner-two n t a s l h = rw (h, le-ltb (s .node) n l)
+
+module _ {n : ℕ} {t near s : List ℕ} {p : Plan} (R : Ready n t near s p) where
+  rights : PlanRight n t p
+  rights = plan-right (R .looked .good .valid) (R .plan)
+
+  -- ---- what the rewriting of the rows asks for
+  pub ready-rewrites : Rewrites n t near p
+  ready-rewrites = record { good = R .looked .good; holds = R .looked .rows; plan = R .plan }
+
+  -- ---- what the groups ask for
+  pub first-asked : {out : List ℕ} → length out ≡ room → Asked n t near s (p .row) (p .first) out
+  first-asked l = record { looked = R .looked; row = rights .row; right = rights .first; for-groups = l }
+
+  pub second-asked : {out : List ℕ} → length out ≡ room → Asked n t near s (p .row) (p .second) out
+  second-asked l = record { looked = R .looked; row = rights .row; right = rights .second; for-groups = l }
+
+  -- ---- those that were listed
+  module _ {gs gs′ hs hs′ : List ℕ} {k j : ℕ} (g : Listed room (sideGroups n t (p .row) (p .first)) gs k gs′)
+      (h : Listed room (sideGroups n t (p .row) (p .second)) hs j hs′) where
+    pub listed-few : Few (p .nni) (take k gs′) (take j hs′)
+    listed-few = record {
+      first = omega (arith, ap length (listed-take g), g .count, g .few);
+      second = omega (arith, ap length (listed-take h), h .count, h .few);
+      twos = λ q. (
+        ap length (listed-take g) ∙ inner-two n t (p .row) (p .first) (rights .inner q .0) (rights .stay q .0),
+        ap length (listed-take h) ∙ inner-two n t (p .row) (p .second) (rights .inner q .1) (rights .stay q .1),
+      );
+    }
+
+    pub listed-dist : (y : ℕ) → y < 2 ^ n → byGroups (p .nni) (take k gs′) (take j hs′) y ≡ dist n t (planMoved n t p) y
+    listed-dist y l =
+        ap₂ (λ (x z : List ℕ). byGroups (p .nni) x z y) (listed-take g) (listed-take h)
+        ∙ plan-dist (R .looked .good .valid) (R .plan) y l
+
+    pub listed-told : (ys out : List ℕ) {r : ℕ} {out′ : List ℕ} → each (λ y. ltb y (2 ^ n)) ys ≡ true
+        → Judges (byGroups (p .nni) (take k gs′) (take j hs′)) ys out r out′ → Told (distances n t (planMoved n t p) ys) out r out′
+    listed-told ys out all J =
+        let u = planMoved n t p in
+        let e = mapped-distances (byGroups (p .nni) (take k gs′) (take j hs′)) n t u ys all listed-dist in
+        record {
+          count = J .count ∙ ap zeros e;
+          memory = J .memory ∙ ap₂ (λ (ds : List ℕ) (i : ℕ). ds ++ drop i out) e (sym (distances-length n t u ys));
+        }

@@ -1,4 +1,2 @@
 pub mod GroupLaws
-pub mod KindLaws
-pub mod PartitionLaws
 pub mod SaidLaws

@@ -8,7 +8,8 @@ use native.Mathlib.Omega.{arith}
 use native.Mathlib.Numerals.{add-one}
 use lib.ListN.{length, getD, take, drop, length-append, take-append-drop, length-drop}
 use lib.Seq.{take-suc, length-take-le, take-length, take-append-seam}
-use Rattle.text.specs.Lines.{verdictLine, savedLine, putFirst, placed}
+use Rattle.calls.specs.Calls.{atStart}
+use Rattle.text.specs.Lines.{verdictLine, savedLine, placed}
 use Rattle.text.proofs.Placing.{placed-start, placed-length, placed-placed, back}
 use Rattle.tree.specs.Splits.{distances}
 use Rattle.rules.specs.Each.{zeros}
@@ -57,10 +58,10 @@ unfolding verdictLines
 verdicts-none m ds = refl
 
 -- ---- lines after lines, at the start of a lent output
-pub put-whole : (xs o : List ℕ) → length xs ≤ length o → length (putFirst xs o) ≡ length o
+pub put-whole : (xs o : List ℕ) → length xs ≤ length o → length (atStart xs o) ≡ length o
 put-whole xs o h = ap length (sym (placed-start o xs)) ∙ placed-length o 0 xs (omega (arith, h))
 
-module _ (o₀ xs o : List ℕ) (e : ℕ) (h : e ≡ length xs) (w : o ≡ putFirst xs o₀) (ds : List ℕ) (room : length xs + length ds ≤ length o₀) where
+module _ (o₀ xs o : List ℕ) (e : ℕ) (h : e ≡ length xs) (w : o ≡ atStart xs o₀) (ds : List ℕ) (room : length xs + length ds ≤ length o₀) where
   start : o ≡ placed o₀ 0 xs
   start = w ∙ sym (placed-start o₀ xs)
 
@@ -74,8 +75,8 @@ module _ (o₀ xs o : List ℕ) (e : ℕ) (h : e ≡ length xs) (w : o ≡ putFi
   pub part-room : length ds ≤ length (take (length o - e) (drop e o))
   part-room = omega (arith, put-room, length-take-le (length o - e) (drop e o) (omega (arith, length-drop e o)))
 
-  pub put-then : {part : List ℕ} {k : ℕ} → (k ≡ length ds) × (part ≡ putFirst ds (take (length o - e) (drop e o)))
-      → (e + k ≡ length (xs ++ ds)) × (take e o ++ (part ++ drop (length o - e) (drop e o)) ≡ putFirst (xs ++ ds) o₀)
+  pub put-then : {part : List ℕ} {k : ℕ} → (k ≡ length ds) × (part ≡ atStart ds (take (length o - e) (drop e o)))
+      → (e + k ≡ length (xs ++ ds)) × (take e o ++ (part ++ drop (length o - e) (drop e o)) ≡ atStart (xs ++ ds) o₀)
   put-then q = (
     omega (arith, q .0, h, length-append xs ds),
     back o e ds put-room q .1
@@ -105,7 +106,7 @@ module _ (m : ℕ) (ds : List ℕ) (s same : ℕ) (counted : same ≡ zeros ds) 
 
     module _
         (o : List ℕ) (e : ℕ) (h : e ≡ length (verdictLines m 1 ds))
-        (w : o ≡ putFirst (verdictLines m 1 ds) o₀)
+        (w : o ≡ atStart (verdictLines m 1 ds) o₀)
       where
         pub last-room : e + length last ≤ length o
         last-room = put-room o₀ (verdictLines m 1 ds) o e h w last last-after
@@ -114,14 +115,14 @@ module _ (m : ℕ) (ds : List ℕ) (s same : ℕ) (counted : same ≡ zeros ds) 
         last-part = part-room o₀ (verdictLines m 1 ds) o e h w last last-after
 
         pub last-then : {part : List ℕ} {k : ℕ}
-            → (k ≡ length last) × (part ≡ putFirst last (take (length o - e) (drop e o)))
+            → (k ≡ length last) × (part ≡ atStart last (take (length o - e) (drop e o)))
             → (e + k ≡ length (linesWith m ds s))
             × (take e o ++ (part ++ drop (length o - e) (drop e o))
-            ≡ putFirst (linesWith m ds s) o₀)
+            ≡ atStart (linesWith m ds s) o₀)
         last-then q =
             let p = put-then o₀ (verdictLines m 1 ds) o e h w last last-after q in (
               p .0 ∙ ap length lines-are,
-              p .1 ∙ ap (λ (x : List ℕ). putFirst x o₀) lines-are,
+              p .1 ∙ ap (λ (x : List ℕ). atStart x o₀) lines-are,
             )
 
 -- ---- the distances of the partitions ys at the start of a lent list

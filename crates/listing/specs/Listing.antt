@@ -1,13 +1,15 @@
 -- One move's lines, and what the call that writes them promises.
 use Prim.Native.Nat.{ℕ, _+_}
-use mathlib.Core.Path.{_≡_}
+use mathlib.Core.Bool.{Bool, true, false}
 use mathlib.Core.List.{List, [], _∷_, _++_}
 use lib.ListN.{length}
+use Rattle.calls.specs.Calls.{Said, gives, refuses, judged, Call, tells}
+use Rattle.tree.specs.Editions.{Edition, narrow}
 use Rattle.tree.specs.Splits.{distances}
-use Rattle.tree.specs.Refusals.{Said, gives, refuses, judged, treeChecks}
-use Rattle.tree.specs.Refusals.{partitionsChecks, roomChecks}
-use Rattle.table.specs.Says.{numberOf}
+use Rattle.tree.specs.Refusals.{treeChecksOf, partitionsChecks, roomChecks}
 use Rattle.moves.specs.Moves.{Move, moved, moveChecks}
+use Rattle.moves.specs.Plans.{planMoved}
+use Rattle.moves.specs.declared.Plan.{Plan}
 use Rattle.rules.specs.Each.{zeros}
 use Rattle.text.specs.Lines.{verdictLine, savedLine, placed}
 use Rattle.listing.specs.Saved.{savedOf}
@@ -37,42 +39,55 @@ linesOf n t ys m k = moveLines n k ys (distances n t (moved n t m) ys)
 
 -- What the call says: the lines. Refusals 1 to 6, 16, and 7 to 11; 11 when they
 -- do not all fit or the place is past the end.
-abbrev pub linesSaid : ℕ → List ℕ → List ℕ → Move → ℕ → ℕ → ℕ → Said (List ℕ)
-linesSaid n t ys m k room place =
-    judged (treeChecks n t ++ partitionsChecks n ys ++ moveChecks n t m ++ roomChecks (place + length (linesOf n t ys m k)) room) (linesOf n t ys m k)
+abbrev pub linesSaidOf : Edition → ℕ → List ℕ → List ℕ → Move → ℕ → ℕ → ℕ → Said (List ℕ)
+linesSaidOf E n b ys m k room place =
+    let t = E .read b in
+    let ls = linesOf n t ys m k in
+    judged (treeChecksOf E n b ++ partitionsChecks n ys ++ moveChecks n t m ++ roomChecks (place + length ls) room) ls
 
--- What each answer says, and what the call says: the place after the lines.
+abbrev pub linesSaid : ℕ → List ℕ → List ℕ → Move → ℕ → ℕ → ℕ → Said (List ℕ)
+linesSaid = linesSaidOf narrow
+
+-- What each answer says.
 abbrev pub linesSays : Lines → Said ℕ
 linesSays (To e) = gives e
-linesSays (Refused r) = refuses (numberOf r)
+linesSays (Refused r) = refuses r
 
-abbrev pub placeAfter : ℕ → Said (List ℕ) → Said ℕ
-placeAfter place (gives ls) = gives (place + length ls)
-placeAfter place (refuses k) = refuses k
+-- What is lent: a table and an output.
+pub record Page : Type 0 where
+  pub table : List ℕ
+  pub out : List ℕ
 
--- The lent table and output afterwards: moved and written, or both as they
--- were.
-abbrev pub tableThen : Said (List ℕ) → List ℕ → List ℕ → List ℕ
-tableThen (gives ls) u t = u
-tableThen (refuses k) u t = t
+abbrev pub page : List ℕ → List ℕ → Page
+page t o = record { table = t; out = o }
 
-abbrev pub outThen : Said (List ℕ) → ℕ → List ℕ → List ℕ
-outThen (gives ls) place out = placed out place ls
-outThen (refuses k) place out = out
+-- The place after the lines; the table after the move, with the lines in the
+-- output from the place on.
+abbrev pub placeAfter : ℕ → List ℕ → ℕ
+placeAfter place ls = place + length ls
 
--- The lines ls are written and the table becomes u, where the lines fit.
-pub record Puts (ls t u out : List ℕ) (place : ℕ) (r : Lines) (t′ out′ : List ℕ) : Type 0 where
-  pub says :
-      linesSays r ≡ placeAfter place (judged (roomChecks (place + length ls) (length out)) ls)
-  pub table :
-      t′ ≡ tableThen (judged (roomChecks (place + length ls) (length out)) ls) u t
-  pub memory :
-      out′ ≡ outThen (judged (roomChecks (place + length ls) (length out)) ls) place out
+abbrev pub movedWith : ℕ → Move → ℕ → List ℕ → Page → Page
+movedWith n m place ls p = page (moved n (p .table) m) (placed (p .out) place ls)
 
-pub record Lists (n : ℕ) (t ys : List ℕ) (m : Move) (k : ℕ) (out : List ℕ) (place : ℕ) (r : Lines) (t′ out′ : List ℕ) : Type 0 where
-  pub says :
-      linesSays r ≡ placeAfter place (linesSaid n t ys m k (length out) place)
-  pub table : t′ ≡ tableThen (linesSaid n t ys m k (length out) place)
-      (moved n t m) t
-  pub memory :
-      out′ ≡ outThen (linesSaid n t ys m k (length out) place) place out
+-- The promise: the first is told, and the second is what was lent.
+abbrev pub Lists : ℕ → List ℕ → Move → ℕ → ℕ → Page → Lines → Page → Type 0
+Lists n ys m k place p r p′ =
+    let said = linesSaid n (p .table) ys m k (length (p .out)) place in
+    Call (tells (placeAfter place)) (movedWith n m place) said p (linesSays r) p′
+
+-- ---- between the functions
+
+-- The promise of these lines where only 11 is left.
+abbrev pub Puts : List ℕ → ℕ → List ℕ → Lines → List ℕ → Type 0
+Puts ls place out r out′ =
+    let said = judged (roomChecks (placeAfter place ls) (length out)) ls in
+    Call (tells (placeAfter place)) (λ w o. placed o place w) said out (linesSays r) out′
+
+-- Lines were written.
+abbrev pub written : Lines → Bool
+written (To e) = true
+written (Refused r) = false
+
+-- Where lines end, the rows of the plan p are rewritten.
+abbrev pub rowsMoved : ℕ → Plan → ℕ → List ℕ → List ℕ
+rowsMoved n p e t = planMoved n t p

@@ -4,22 +4,20 @@ ghost use Prim.Native.Nat.{_+_, _*_, _≤_};
 ghost use mathlib.Core.Path.{_≡_};
 ghost use lib.Dec.{leb};
 ghost use lib.ListN.{length};
+ghost use Rattle.calls.specs.Calls.{lentThen};
 ghost use Rattle.taxa.specs.Most.{most, mostPartitions};
-ghost use Rattle.taxa.specs.Sets.{pick};
-ghost use Rattle.tree.specs.Refusals.{Accepted, partitionsChecks, Pass};
-ghost use Rattle.near.specs.Near.{Near};
-ghost use Rattle.sides.specs.Filled.{Sides};
-ghost use Rattle.text.specs.Lines.{putFirst};
+ghost use Rattle.text.specs.Lines.{Wrote};
 ghost use Rattle.rules.specs.Each.{zeros};
-ghost use Rattle.moves.specs.Moves.{moved};
-ghost use Rattle.fits.specs.Bytes.{moveOf};
-ghost use Rattle.judge.specs.Promises.{Fit};
+ghost use Rattle.rewrite.specs.Asked.{Rewrites};
+ghost use Rattle.fits.specs.Entries.{moveOf};
 ghost use Rattle.listing.specs.Saved.{countsAsSaved, savedOf};
-ghost use Rattle.listing.specs.Listing.{verdictLines, linesWith, Puts, Lists};
-use fits::Fitted;
+ghost use Rattle.listing.specs.Listing as listing_spec;
+ghost use Rattle.listing.specs.Listing.{verdictLines, linesWith, page, Lists};
+ghost use Rattle.listing.specs.Listing.{linesSays, rowsMoved, Puts};
+use calls::Refusal;
+use fits::Entry;
 use fits::Move;
-use table::Checked;
-use table::Refusal;
+use moves::Plan;
 
 // The answer of a move's lines: the place after them.
 pub enum Lines {
@@ -74,7 +72,7 @@ fn verdicts_width(m: u64, ds: &[u64]) -> usize
 // How many bytes the lines of move m take, with the number saved, where same
 // of the distances are 0.
 fn lines_width(m: u64, ds: &[u64], saved: usize, same: usize) -> usize
-    requires { ⌜ (length (now ds) ≤ mostPartitions) × (same ≡ zeros (now ds)) ⌝ }
+    requires { let ds = now ds in ⌜ (length ds ≤ mostPartitions) × (same ≡ zeros ds) ⌝ }
     ensures { λ r. ⌜ r ≡ length (linesWith m (now (ds .entry)) saved) ⌝ }
 {
     let w = verdicts_width(m, ds);
@@ -84,8 +82,11 @@ fn lines_width(m: u64, ds: &[u64], saved: usize, same: usize) -> usize
 
 // Writes the verdict lines of move m at the start of out; how many bytes.
 fn put_verdicts(m: u64, ds: &[u64], out: &mut [u8]) -> usize
-    requires { ⌜ (length (now ds) ≤ mostPartitions) × (length (verdictLines m 1 (now ds)) ≤ length (now out)) ⌝ }
-    ensures { λ r. ⌜ (r ≡ length (verdictLines m 1 (now (ds .entry)))) × (now (out .exit) ≡ putFirst (verdictLines m 1 (now (ds .entry))) (now (out .entry))) × (r ≤ 80 * mostPartitions) ⌝ }
+    requires { let ds = now ds in
+        ⌜ (length ds ≤ mostPartitions) × (length (verdictLines m 1 ds) ≤ length (now out)) ⌝ }
+    ensures { λ r.
+        let ls = verdictLines m 1 (now (ds .entry)) in
+        ⌜ (Wrote ls (now (out .entry)) r (now (out .exit))) × (r ≤ 80 * mostPartitions) ⌝ }
 {
     let mut e: usize = 0;
     let mut i: usize = 0;
@@ -99,8 +100,12 @@ fn put_verdicts(m: u64, ds: &[u64], out: &mut [u8]) -> usize
 
 // Writes the lines of move m at the start of out; how many bytes.
 fn put_lines(m: u64, ds: &[u64], saved: usize, same: usize, out: &mut [u8]) -> usize
-    requires { ⌜ (length (now ds) ≤ mostPartitions) × (same ≡ zeros (now ds)) × (length (linesWith m (now ds) saved) ≤ length (now out)) ⌝ }
-    ensures { λ r. ⌜ (r ≡ length (linesWith m (now (ds .entry)) saved)) × (now (out .exit) ≡ putFirst (linesWith m (now (ds .entry)) saved) (now (out .entry))) ⌝ }
+    requires { let ds = now ds in
+        ⌜ (length ds ≤ mostPartitions) × (same ≡ zeros ds)
+        × (length (linesWith m ds saved) ≤ length (now out)) ⌝ }
+    ensures { λ r.
+        let ls = linesWith m (now (ds .entry)) saved in
+        ⌜ Wrote ls (now (out .entry)) r (now (out .exit)) ⌝ }
 {
     let e = put_verdicts(m, ds, out);
     let k = text::saved_line(m, saved as u64, same as u64, ds.len() as u64, &mut out[e..]);
@@ -120,85 +125,46 @@ fn has_room(room: usize, place: usize, k: usize) -> bool
     true
 }
 
-// Rewrites the rows of a move where its lines fit; else the tree stays.
-fn move_where(fits: bool, n: usize, t: &mut [u8], near: &[u8], s: &[u64], m: Move)
-    requires { ⌜ Fit n (now t) (now near) (now s) (moveOf m) ⌝ }
-    ensures { λ _. ⌜ now (t .exit) ≡ pick fits (moved n (now (t .entry)) (moveOf m)) (now (t .entry)) ⌝ }
-{
-    if fits {
-        judge::rewrite_rows(n, t, near, s, m);
-    }
-}
-
-// Writes the lines of move m from the place on and rewrites its rows, where
-// the lines fit: refusal 11.
+// Writes the lines of move m from the place on, where they fit: refusal 11.
 fn put_where_room(
-    n: usize,
-    t: &mut [u8],
-    near: &[u8],
-    s: &[u64],
-    m: Move,
-    number: u64,
+    m: u64,
     ds: &[u64],
     saved: usize,
     same: usize,
     out: &mut [u8],
     place: usize,
 ) -> Lines
-    requires { ⌜ (Fit n (now t) (now near) (now s) (moveOf m)) × (length (now ds) ≤ mostPartitions) × (same ≡ zeros (now ds)) ⌝ }
-    ensures { λ r. ⌜ Puts (linesWith number (now (ds .entry)) saved) (now (t .entry)) (moved n (now (t .entry)) (moveOf m)) (now (out .entry)) place r (now (t .exit)) (now (out .exit)) ⌝ }
+    requires { let ds = now ds in ⌜ (length ds ≤ mostPartitions) × (same ≡ zeros ds) ⌝ }
+    ensures { λ r.
+        let ls = linesWith m (now (ds .entry)) saved in
+        ⌜ Puts ls place (now (out .entry)) r (now (out .exit)) ⌝ }
 {
-    let k = lines_width(number, ds, saved, same);
-    let fits = has_room(out.len(), place, k);
-    move_where(fits, n, t, near, s, m);
-    if !fits {
+    let k = lines_width(m, ds, saved, same);
+    if !has_room(out.len(), place, k) {
         return Lines::Refused(Refusal::Room);
     }
-    put_lines(number, ds, saved, same, &mut out[place..]);
+    put_lines(m, ds, saved, same, &mut out[place..]);
     Lines::To(place + k)
 }
 
-// The lines of a tree's move that fits, where the partitions are right:
-// refusal 11.
-fn list_fit(
-    n: usize,
-    t: &mut [u8],
-    near: &[u8],
-    s: &[u64],
-    ys: &[u64],
-    m: Move,
-    number: u64,
-    out: &mut [u8],
-    place: usize,
-) -> Lines
-    requires { ⌜ (Fit n (now t) (now near) (now s) (moveOf m)) × (Pass (partitionsChecks n (now ys))) ⌝ }
-    ensures { λ r. ⌜ Lists n (now (t .entry)) (now (ys .entry)) (moveOf m) number (now (out .entry)) place r (now (t .exit)) (now (out .exit)) ⌝ }
+// Whether lines were written.
+fn written(answer: Lines) -> bool
+    ensures { λ b. ⌜ b ≡ listing_spec.written answer ⌝ }
 {
-    let mut ds = [0u64; taxa::PARTITIONS];
-    let same = judge::judge_groups(n, t, near, s, ys, m, &mut ds);
-    let found = &ds[..ys.len()];
-    let saved = saved_of(ys, found);
-    put_where_room(n, t, near, s, m, number, found, saved, same, out, place)
+    match answer {
+        Lines::To(_) => true,
+        Lines::Refused(_) => false,
+    }
 }
 
-// The lines of a tree's move: refusals 6, 16, and 7 to 11.
-fn list_tree(
-    n: usize,
-    t: &mut [u8],
-    near: &[u8],
-    s: &[u64],
-    ys: &[u64],
-    m: Move,
-    number: u64,
-    out: &mut [u8],
-    place: usize,
-) -> Lines
-    requires { ⌜ (Accepted n (now t)) × (Near n (now t) (now near)) × (Sides n (now t) (now s)) ⌝ }
-    ensures { λ r. ⌜ Lists n (now (t .entry)) (now (ys .entry)) (moveOf m) number (now (out .entry)) place r (now (t .exit)) (now (out .exit)) ⌝ }
+// Rewrites the rows of a move where its lines were written; else the tree
+// stays.
+fn move_where(answer: Lines, n: usize, t: &mut [u8], near: &[u8], p: Plan)
+    requires { ⌜ Rewrites n (now t) (now near) p ⌝ }
+    ensures { λ _. ⌜ now (t .exit) ≡ lentThen (rowsMoved n p) (linesSays answer) (now (t .entry)) ⌝ }
 {
-    match judge::call_fits(n, t, s, ys, m) {
-        Fitted::Refused(r) => Lines::Refused(r),
-        Fitted::Fits => list_fit(n, t, near, s, ys, m, number, out, place),
+    if written(answer) {
+        rewrite::move_rows(n, t, near, p);
     }
 }
 
@@ -213,13 +179,25 @@ pub fn list_move(
     out: &mut [u8],
     place: usize,
 ) -> Lines
-    ensures { λ r. ⌜ Lists n (now (t .entry)) (now (ys .entry)) (moveOf m) number (now (out .entry)) place r (now (t .exit)) (now (out .exit)) ⌝ }
+    ensures { λ r.
+        let before = page (now (t .entry)) (now (out .entry)) in
+        let after = page (now (t .exit)) (now (out .exit)) in
+        ⌜ Lists n (now (ys .entry)) (moveOf m) number place before r after ⌝ }
 {
     let mut near = [near::FREE; near::PLACES];
     let mut s = [0u64; sides::ROWS];
-    let answer = sides::look(n, t, &mut near, &mut s);
-    match answer {
-        Checked::Refused(r) => Lines::Refused(r),
-        Checked::Tree => list_tree(n, t, &near, &s, ys, m, number, out, place),
+    let parts = door::parts_fit(n, ys);
+    let entry = door::enter(n, t, &mut near, &mut s, parts, m);
+    match entry {
+        Entry::Refused(r) => Lines::Refused(r),
+        Entry::Opens(p) => {
+            let mut ds = [0u64; taxa::PARTITIONS];
+            let same = judge::judge_groups(n, t, &near, &s, p, ys, &mut ds);
+            let found = &ds[..ys.len()];
+            let saved = saved_of(ys, found);
+            let answer = put_where_room(number, found, saved, same, out, place);
+            move_where(answer, n, t, &near, p);
+            answer
+        }
     }
 }

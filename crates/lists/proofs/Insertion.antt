@@ -12,6 +12,7 @@ use lib.Dec.{eqb, ltb}
 use borrow.Author.Tests.{lt-ltb, le-ltb, eq-eqb, ne-eqb, ltb-true, ltb-false}
 use Rattle.taxa.specs.Sets.{pick}
 use Rattle.tree.specs.Lists.{insert}
+use Rattle.lists.specs.Listed.{Listed}
 use Rattle.lists.specs.Places.{lead, gapped}
 
 -- ---- the walk to the place, in the first len numbers of o
@@ -121,11 +122,11 @@ module _ (x : ℕ) (o : List ℕ) (len : ℕ) (fits : len ≤ length o) (i : ℕ
   within : i ≤ len
   within = omega (arith, size, lead-le x (take len o))
 
-  pub there : i < len → getD o i 0 ≡ x → (len ≡ length (insert x (take len o))) × (o ≡ insert x (take len o) ++ drop len o)
+  pub there : i < len → getD o i 0 ≡ x → Listed (insert x (take len o)) o len o
   there h e =
       let q : getD (take len o) (lead x (take len o)) 0 ≡ x = rw (← place) (getD-take len o i 0 h ∙ e) in
       let s : insert x (take len o) ≡ take len o = insert-there x (take len o) (omega (arith, size)) q in
-      (sym (ap length s ∙ size), rw s (sym (take-append-drop len o)))
+      record { count = sym (ap length s ∙ size); memory = rw s (sym (take-append-drop len o)) }
 
   module _ (differ : i < len → getD o i 0 ≡ x → ⊥) (spare : length (insert x (take len o)) ≤ length o) where
     inserted : insert x (take len o) ≡ take i o ++ (x ∷ take (len - i) (drop i o))

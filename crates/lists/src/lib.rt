@@ -1,11 +1,11 @@
 // Ascending lists of numbers in the caller's slices: a number put in, and what
 // one list lacks of another.
 ghost use mathlib.Core.Path.{_≡_};
-ghost use mathlib.Core.List.{_++_};
 ghost use Prim.Native.Nat.{_<_, _≤_};
-ghost use lib.ListN.{length, take, drop};
+ghost use lib.ListN.{length, take};
 ghost use Rattle.tree.specs.Lists as lists_spec;
 ghost use Rattle.tree.specs.Lists.{Asc};
+ghost use Rattle.lists.specs.Listed.{RoomFor, Listed};
 ghost use Rattle.lists.specs.Places.{lead, gapped};
 
 // How many numbers at the start of the first len are below x.
@@ -39,10 +39,10 @@ fn open_gap(out: &mut [u64], i: usize, len: usize)
 // Puts x in its place of the first len numbers of out, which ascend, once; the
 // new count.
 pub fn insert(out: &mut [u64], len: usize, x: u64) -> usize
-    requires { ⌜ len ≤ length (now out) ⌝ }
-    requires { ⌜ length (lists_spec.insert x (take len (now out))) ≤ length (now out) ⌝ }
-    ensures { λ r. ⌜ r ≡ length (lists_spec.insert x (take len (now (out .entry)))) ⌝ }
-    ensures { λ r. ⌜ now (out .exit) ≡ lists_spec.insert x (take len (now (out .entry))) ++ drop r (now (out .entry)) ⌝ }
+    requires { let o = now out in ⌜ (len ≤ length o) × (RoomFor (lists_spec.insert x (take len o)) o) ⌝ }
+    ensures { λ r.
+        let o = now (out .entry) in
+        ⌜ Listed (lists_spec.insert x (take len o)) o r (now (out .exit)) ⌝ }
 {
     let i = place(out, len, x);
     if i < len {

@@ -83,7 +83,7 @@ fn one(n: usize, t: &[u8], y: u64, m: Move, words: &[u8]) {
             put(b"apart, ");
         }
         Verdict::Refused(r) => {
-            say(table::number(r) as u64);
+            say(calls::number(r) as u64);
             put(b"refused, ");
         }
     }
@@ -101,7 +101,7 @@ fn each(n: usize, t: &[u8], ys: &[u64], m: Move, copy: &[u64], out: &mut [u64], 
             numbers(out);
         }
         Judged::Refused(r) => {
-            say(table::number(r) as u64);
+            say(calls::number(r) as u64);
             put(b"refused, list ");
             kept(same_numbers(copy, out));
         }
@@ -129,7 +129,7 @@ fn apply(n: usize, copy: &[u8], t: &mut [u8], m: Move, words: &[u8]) {
             rows(t);
         }
         Moved::Refused(r) => {
-            say(table::number(r) as u64);
+            say(calls::number(r) as u64);
             put(b"refused, table ");
             kept(same_bytes(copy, t));
         }
@@ -142,7 +142,7 @@ fn applied(n: usize, t: &mut [u8], m: Move) -> u64 {
     let c = judge::apply_move(n, t, m);
     match c {
         Moved::Done => 0,
-        Moved::Refused(r) => table::number(r) as u64,
+        Moved::Refused(r) => calls::number(r) as u64,
     }
 }
 
@@ -151,7 +151,7 @@ fn judged(n: usize, t: &[u8], ys: &[u64], m: Move, out: &mut [u64]) -> u64 {
     let j = judge::judge_move(n, t, ys, m, out);
     match j {
         Judged::Same(_) => 0,
-        Judged::Refused(r) => table::number(r) as u64,
+        Judged::Refused(r) => calls::number(r) as u64,
     }
 }
 
@@ -160,7 +160,7 @@ fn alone(n: usize, t: &[u8], y: u64, m: Move) -> u64 {
     let v = judge::judge_one(n, t, y, m);
     match v {
         Verdict::Distance(_) => 0,
-        Verdict::Refused(r) => table::number(r) as u64,
+        Verdict::Refused(r) => calls::number(r) as u64,
     }
 }
 

@@ -8,12 +8,14 @@ pub mod Degrees
 pub mod Exchange
 pub mod Graft
 pub mod GroupLists
+pub mod Leads
 pub mod Meeting
 pub mod MoveDemands
 pub mod Moved
 pub mod Named
 pub mod NniMove
 pub mod NniSwap
+pub mod Plans
 pub mod Puts
 pub mod Regraft
 pub mod RowEnds

@@ -1,19 +1,22 @@
 -- Any move that passes its checks: what the checks say, kind by kind; the
 -- table stays valid and accepted; the distance is the papers' rule.
 -- Assumes nothing.
-use mathlib.Core.Path.{_≡_}
-use mathlib.Core.Logic.{_⊎_, inl, inr}
-use mathlib.Core.Bool.{true, false, _&&_, _||_}
-use mathlib.Core.List.{List}
+use mathlib.Core.Path.{_≡_, refl}
+use mathlib.Core.Bool.{Bool, true, false, _&&_, false≢true}
+use mathlib.Core.List.{List, [], _∷_}
 use Prim.Native.Nat.{ℕ, _*_, _-_, _^_, _≤_, _<_}
 use native.Mathlib.Omega.{arith}
 use lib.Dec.{eqb, leb}
 use borrow.Author.Tests.{eqb-true, eqb-false, leb-true, not-true}
-use Rattle.taxa.proofs.Bools.{and-left, and-right, or-cases}
+use Rattle.taxa.specs.Sets.{pick}
+use Rattle.taxa.proofs.Bools.{and-left, and-right}
 use Rattle.tree.specs.Tree.{lo, hi, rows, touches, Valid}
 use Rattle.tree.specs.Splits.{dist}
-use Rattle.tree.specs.Refusals.{Accepted, Pass}
-use Rattle.moves.specs.Moves.{Move, nni, nniFits, endWith, spr, tbr, target, moved, kindRight, rowsRight, fits, anyMoves, moveChecks}
+use Rattle.calls.specs.Calls.{Pass}
+use Rattle.tree.specs.Refusals.{each, Accepted}
+use Rattle.tree.proofs.RefusalLaws.{valid-accepted}
+use Rattle.moves.specs.Moves.{Move, nni, nniFits, endWith, spr, tbr, target, moved}
+use Rattle.moves.specs.Moves.{kindRight, allRows, rowsRight, fits, anyMoves, moveChecks}
 use Rattle.moves.specs.Groups.{nniRule, sprRule, tbrRule, moveRule}
 use Rattle.moves.proofs.NniMove.{nni-valid, nni-dist}
 use Rattle.moves.proofs.SprRule.{spr-valid, spr-dist}
@@ -56,8 +59,8 @@ pub data Passed (n : ℕ) (t : List ℕ) (m : Move) : Type 0 where
 
 -- so say the checks of a move that passes them
 pub passed : (n : ℕ) (t : List ℕ) (m : Move) → 4 ≤ n → Pass (moveChecks n t m) → Passed n t m
-unfolding kindRight rowsRight fits anyMoves
-passed n t m big w = go (or-cases (eqb (m .kind) 1 || eqb (m .kind) 2 && eqb (m .third) 0) (eqb (m .kind) 3) (w .0))
+unfolding kindRight rowsRight each fits anyMoves
+passed n t m big w = go (eqb (m .kind) 1) (eqb (m .kind) 2) (eqb (m .kind) 3) refl refl refl (w .0)
   where
     M : ℕ
     M = 2 * n - 4
@@ -74,47 +77,57 @@ passed n t m big w = go (or-cases (eqb (m .kind) 1 || eqb (m .kind) 2 && eqb (m 
     lt : (r : ℕ) → leb r M ≡ true → r < rows n
     lt r h = omega (arith, leb-true r M h)
 
-    la : a < rows n
-    la = lt a (and-left (leb a M) (leb b M) (and-left (leb a M && leb b M) (eqb (m .kind) 2 || leb c M) (w .1 .0)))
+    -- rows that are all right
+    head-lt : (r : ℕ) (rs : List ℕ) → allRows n (r ∷ rs) ≡ true → r < rows n
+    head-lt r rs h = lt r (and-left (leb r M) (allRows n rs) h)
 
-    lb : b < rows n
-    lb = lt b (and-right (leb a M) (leb b M) (and-left (leb a M && leb b M) (eqb (m .kind) 2 || leb c M) (w .1 .0)))
-
-    third : (eqb (m .kind) 2 || leb c M) ≡ true
-    third = and-right (leb a M && leb b M) (eqb (m .kind) 2 || leb c M) (w .1 .0)
+    rest-lt : (r : ℕ) (rs : List ℕ) → allRows n (r ∷ rs) ≡ true → allRows n rs ≡ true
+    rest-lt r rs h = and-right (leb r M) (allRows n rs) h
 
     one-kind : m .kind ≡ 1 → Passed n t m
-    one-kind e = by-nni (record { kind-is = e; e-lt = la; x-lt = lb; y-lt = lt c (rw e at third); fit = rw e at w .1 .1 .0 })
+    one-kind e =
+        let h : allRows n (a ∷ b ∷ c ∷ []) ≡ true = rw e at w .1 .0 in
+        let i = rest-lt a (b ∷ c ∷ []) h in
+        by-nni (record {
+          kind-is = e;
+          e-lt = head-lt a (b ∷ c ∷ []) h;
+          x-lt = head-lt b (c ∷ []) i;
+          y-lt = head-lt c [] (rest-lt b (c ∷ []) i);
+          fit = rw e at w .1 .1 .0;
+        })
 
     two-kind : m .kind ≡ 2 → Passed n t m
-    two-kind e = by-spr (record {
-      kind-is = e;
-      a-lt = la;
-      b-lt = lb;
-      ab = eqb-false a b (not-true (eqb a b) (rw e at w .1 .1 .0));
-      away = not-true (touches t b (endWith n t a b)) (rw e at w .1 .1 .1 .0);
-    })
+    two-kind e =
+        let h : allRows n (a ∷ b ∷ []) ≡ true = rw e at w .1 .0 in
+        by-spr (record {
+          kind-is = e;
+          a-lt = head-lt a (b ∷ []) h;
+          b-lt = head-lt b [] (rest-lt a (b ∷ []) h);
+          ab = eqb-false a b (not-true (eqb a b) (rw e at w .1 .1 .0));
+          away = not-true (touches t b (endWith n t a b)) (rw e at w .1 .1 .1 .0);
+        })
 
     three-kind : m .kind ≡ 3 → Passed n t m
     three-kind e =
+        let h : allRows n (a ∷ b ∷ c ∷ []) ≡ true = rw e at w .1 .0 in
+        let i = rest-lt a (b ∷ c ∷ []) h in
         let f : (target n t a (lo t a) b && target n t a (hi t a) c) ≡ true = rw e at w .1 .1 .0 in
         by-tbr (record {
           kind-is = e;
-          a-lt = la;
-          b-lt = lb;
-          c-lt = lt c (rw e at third);
+          a-lt = head-lt a (b ∷ c ∷ []) h;
+          b-lt = head-lt b (c ∷ []) i;
+          c-lt = head-lt c [] (rest-lt b (c ∷ []) i);
           low = and-left (target n t a (lo t a) b) (target n t a (hi t a) c) f;
           high = and-right (target n t a (lo t a) b) (target n t a (hi t a) c) f;
           away = not-true (touches t b (lo t a) && touches t c (hi t a)) (rw e at w .1 .1 .1 .0);
         })
 
-    first-two : (eqb (m .kind) 1 ≡ true) ⊎ ((eqb (m .kind) 2 && eqb c 0) ≡ true) → Passed n t m
-    first-two (inl e) = one-kind (eqb-true (m .kind) 1 e)
-    first-two (inr e) = two-kind (eqb-true (m .kind) 2 (and-left (eqb (m .kind) 2) (eqb c 0) e))
-
-    go : ((eqb (m .kind) 1 || eqb (m .kind) 2 && eqb c 0) ≡ true) ⊎ (eqb (m .kind) 3 ≡ true) → Passed n t m
-    go (inl e) = first-two (or-cases (eqb (m .kind) 1) (eqb (m .kind) 2 && eqb c 0) e)
-    go (inr e) = three-kind (eqb-true (m .kind) 3 e)
+    go : (x y z : Bool) → eqb (m .kind) 1 ≡ x → eqb (m .kind) 2 ≡ y → eqb (m .kind) 3 ≡ z
+        → pick x true (pick y (eqb c 0) (pick z true false)) ≡ true → Passed n t m
+    go true y z e f g h = one-kind (eqb-true (m .kind) 1 e)
+    go false true z e f g h = two-kind (eqb-true (m .kind) 2 f)
+    go false false true e f g h = three-kind (eqb-true (m .kind) 3 g)
+    go false false false e f g h = absurd (false≢true h)
 
 -- ---- the table and the papers' distance, by the kind
 module _ (n : ℕ) (t : List ℕ) (m : Move) where
@@ -153,7 +166,7 @@ moved-valid n t m vt w = go (passed n t m (vt .big) w)
 
 -- so what no check of a tree refused none refuses afterwards
 pub moved-accepted : (n : ℕ) (t : List ℕ) (m : Move) → Accepted n t → Pass (moveChecks n t m) → Accepted n (moved n t m)
-moved-accepted n t m a w = record { few = a .few; valid = moved-valid n t m (a .valid) w }
+moved-accepted n t m a w = valid-accepted (a .few) (moved-valid n t m (a .valid) w)
 
 -- ---- the distance over any set of taxa is the papers' rule
 pub moved-dist : (n : ℕ) (t : List ℕ) (m : Move) → Valid n t → Pass (moveChecks n t m) → (Y : ℕ) → Y < 2 ^ n → dist n t (moved n t m) Y ≡ moveRule n t m Y

@@ -12,7 +12,7 @@ use Rattle.taxa.proofs.Bools.{or-neither}
 use Rattle.tree.specs.Tree.{lo, hi, rows, touches, far, others, Valid}
 use Rattle.tree.specs.Lists.{mem}
 use Rattle.tree.proofs.Lists.{mem-append}
-use Rattle.tree.specs.Refusals.{Pass}
+use Rattle.calls.specs.Calls.{Pass}
 use Rattle.moves.specs.Moves.{Move, put, endOn, nni, endWith, moveEnd, spr, stayOr, tbr, moved, moveChecks}
 use Rattle.moves.specs.Named.{endNamed, stayNamed, named}
 use Rattle.moves.proofs.Puts.{length-put, lo-other, hi-other}
@@ -50,12 +50,13 @@ length-nni t e x y =
 -- the table keeps its length
 pub moved-length : (n : ℕ) (t : List ℕ) (m : Move) → length (moved n t m) ≡ length t
 unfolding moved spr tbr
-moved-length n t m = go (m .first) (m .second) (m .third) (eqb (m .kind) 1) (eqb (m .kind) 2)
+moved-length n t m = go (m .first) (m .second) (m .third) (eqb (m .kind) 1) (eqb (m .kind) 2) (eqb (m .kind) 3)
   where
-    go : (e x y : ℕ) (c d : Bool) → length (pick c (nni t e x y) (pick d (spr n t e x) (tbr n t e x y))) ≡ length t
-    go e x y true d = length-nni t e x y
-    go e x y false true = length-moveEnd n t (endWith n t e x) e x
-    go e x y false false = length-stayOr n (stayOr n t (lo t e) e x) (hi t e) e y ∙ length-stayOr n t (lo t e) e x
+    go : (e x y : ℕ) (c d f : Bool) → length (pick c (nni t e x y) (pick d (spr n t e x) (pick f (tbr n t e x y) t))) ≡ length t
+    go e x y true d f = length-nni t e x y
+    go e x y false true f = length-moveEnd n t (endWith n t e x) e x
+    go e x y false false true = length-stayOr n (stayOr n t (lo t e) e x) (hi t e) e y ∙ length-stayOr n t (lo t e) e x
+    go e x y false false false = refl
 
 -- ---- the rows that stay
 -- row r has the same ends in both tables

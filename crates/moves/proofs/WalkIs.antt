@@ -17,7 +17,7 @@ use Rattle.tree.proofs.Joins.{Joins, joins-touch, joins-flip, touch-joins, touc
 use Rattle.tree.proofs.Colourings.{Hangs, hangs, parts-unique, valid-table}
 use Rattle.tree.proofs.RowCounts.{Pair, pair, leaf-only}
 use Rattle.tree.proofs.Forks.{Fork, fork-of, fork-swap, joined, has-joined, leaf-parts}
-use Rattle.moves.specs.Groups.{beyond, leads, walk}
+use Rattle.moves.specs.Groups.{beyond, leads, onward, aside, walk}
 use Rattle.moves.proofs.RowEnds.{out-lo}
 use Rattle.moves.proofs.Walk.{Taxa, Walk, next, done, fork-turn, behind, behind-v, behind-sub, no-common}
 
@@ -31,14 +31,37 @@ leaf-behind n t v e P vt lv le te hP i li d =
     w .1 i li ∙ ap₂ _⊕_ all (has-pow v i ∙ ne-eqb v i d)
 
 -- ---- one step of `walk`
-module _ (n : ℕ) (t : List ℕ) (b k v e f g : ℕ) (l : Bool) (h : others t e v (rows n) ≡ f ∷ g ∷ []) (hl : leads n t b v f ≡ l) where
-  walk-last : eqb (pick l f g) b ≡ true → walk n t b (suc k) v e ≡ beyond n t v (pick l g f) ∷ beyond n t v b ∷ []
+module _ (n : ℕ) (t : List ℕ) (b k v e : ℕ) where
+  pub walk-last : eqb (onward n t b v e) b ≡ true → walk n t b (suc k) v e ≡ beyond n t v (aside n t b v e) ∷ beyond n t v b ∷ []
   unfolding walk
-  walk-last q = rw (h, hl, q)
+  walk-last q = rw q
 
-  walk-next : eqb (pick l f g) b ≡ false → walk n t b (suc k) v e ≡ beyond n t v (pick l g f) ∷ walk n t b k (far t (pick l f g) v) (pick l f g)
+  pub walk-next : eqb (onward n t b v e) b ≡ false
+      → walk n t b (suc k) v e ≡ beyond n t v (aside n t b v e) ∷ walk n t b k (far t (onward n t b v e) v) (onward n t b v e)
   unfolding walk
-  walk-next q = rw (h, hl, q, h, hl)
+  walk-next q = rw q
+
+-- f and g being the two other rows at v
+module _ (n : ℕ) (t : List ℕ) (b e v f g : ℕ) (list : others t e v (rows n) ≡ f ∷ g ∷ []) where
+  pub on-is : (l : Bool) → leads n t b v f ≡ l → onward n t b v e ≡ pick l f g
+  unfolding onward
+  on-is l h = rw (list, h)
+
+  pub off-is : (l : Bool) → leads n t b v f ≡ l → aside n t b v e ≡ pick l g f
+  unfolding aside
+  off-is l h = rw (list, h)
+
+  module _ (k : ℕ) (l : Bool) (h : leads n t b v f ≡ l) where
+    last-is : eqb (pick l f g) b ≡ true → walk n t b (suc k) v e ≡ beyond n t v (pick l g f) ∷ beyond n t v b ∷ []
+    last-is q =
+        walk-last n t b k v e (ap (λ (x : ℕ). eqb x b) (on-is l h) ∙ q)
+        ∙ ap (λ (x : ℕ). beyond n t v x ∷ beyond n t v b ∷ []) (off-is l h)
+
+    next-is : eqb (pick l f g) b ≡ false
+        → walk n t b (suc k) v e ≡ beyond n t v (pick l g f) ∷ walk n t b k (far t (pick l f g) v) (pick l f g)
+    next-is q =
+        walk-next n t b k v e (ap (λ (x : ℕ). eqb x b) (on-is l h) ∙ q)
+        ∙ ap₂ (λ (x y : ℕ). beyond n t v x ∷ walk n t b k (far t y v) y) (off-is l h) (on-is l h)
 
 pub beyond-taxa : (n : ℕ) (t : List ℕ) (v x : ℕ) → Taxa n (beyond n t v x) (part n t x (far t x v))
 unfolding beyond
@@ -184,24 +207,24 @@ module _ {n : ℕ} {t : List ℕ} {b : ℕ} (vt : Valid n t) (b-lt : b < rows n)
 
       by-f : Deep → leads n t b v f ≡ true → (eqb f b ≡ true) ⊎ (eqb f b ≡ false) → Found n t b v e (walk n t b (suc k) v e)
       by-f ih hl (inl w) =
-          subst (λ (x : List ℕ). Found n t b v e x) (sym (walk-last n t b k v e f g true (K .list) hl w))
+          subst (λ (x : List ℕ). Found n t b v e x) (sym (last-is n t b e v f g (K .list) k true hl w))
           (last-step A on-f (λ d. fk .xf (eqb-true f b w ∙ sym d)) w)
       by-f ih hl (inr w) =
           let lead : has B (lo t b) ≡ true = sym (ap (λ (x : Bool). x || has B (lo t b)) w) ∙ hl in
           let gb = g-not-b lead in
           let out = b-not-g lead in
-          subst (λ (x : List ℕ). Found n t b v e x) (sym (walk-next n t b k v e f g true (K .list) hl w))
+          subst (λ (x : List ℕ). Found n t b v e x) (sym (next-is n t b e v f g (K .list) k true hl w))
           (next-step A on-f gb w out (walk n t b k (far t f v) f)
           (ih (far t f v) f (P′ A on-f gb w out) (ahead A on-f gb w out) (omega (arith, grows A on-f gb w out))))
 
       by-g : Deep → leads n t b v f ≡ false → (eqb g b ≡ true) ⊎ (eqb g b ≡ false) → Found n t b v e (walk n t b (suc k) v e)
       by-g ih hl (inl w) =
-          subst (λ (x : List ℕ). Found n t b v e x) (sym (walk-last n t b k v e f g false (K .list) hl w))
+          subst (λ (x : List ℕ). Found n t b v e x) (sym (last-is n t b e v f g (K .list) k false hl w))
           (last-step A on-g (λ d. fk .xf (d ∙ sym (eqb-true g b w))) w)
       by-g ih hl (inr w) =
           let no = or-neither (eqb f b) (has B (lo t b)) hl in
           let fb : f ≡ b → ⊥ = eqb-false f b (no .0) in
-          subst (λ (x : List ℕ). Found n t b v e x) (sym (walk-next n t b k v e f g false (K .list) hl w))
+          subst (λ (x : List ℕ). Found n t b v e x) (sym (next-is n t b e v f g (K .list) k false hl w))
           (next-step A on-g fb w (no .1) (walk n t b k (far t g v) g)
           (ih (far t g v) g (P′ A on-g fb w (no .1)) (ahead A on-g fb w (no .1)) (omega (arith, grows A on-g fb w (no .1)))))
 

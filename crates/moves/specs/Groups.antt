@@ -8,7 +8,7 @@ use lib.ListN.{getD}
 use lib.Bits.{bitAnd}
 use Rattle.taxa.specs.Sets.{pick, tally, has, some}
 use Rattle.tree.specs.Tree.{lo, hi, rows, nodes, far, others, part}
-use Rattle.moves.specs.Moves.{Move, endWith}
+use Rattle.moves.specs.Moves.{Move, byKind, endWith}
 
 -- The taxa beyond row x, seen from its end v.
 unfoldable pub beyond : ℕ → List ℕ → ℕ → ℕ → ℕ
@@ -18,16 +18,28 @@ beyond n t v x = part n t x (far t x v) % 2 ^ n
 unfoldable pub leads : ℕ → List ℕ → ℕ → ℕ → ℕ → Bool
 leads n t b v x = eqb x b || has (part n t x (far t x v)) (lo t b)
 
+-- At node v, come by row e: of the two other rows the one that leads on to row
+-- b, and the one that does not.
+unfoldable pub onward : ℕ → List ℕ → ℕ → ℕ → ℕ → ℕ
+onward n t b v e =
+    let x = getD (others t e v (rows n)) 0 0 in
+    let y = getD (others t e v (rows n)) 1 0 in
+    pick (leads n t b v x) x y
+
+unfoldable pub aside : ℕ → List ℕ → ℕ → ℕ → ℕ → ℕ
+aside n t b v e =
+    let x = getD (others t e v (rows n)) 0 0 in
+    let y = getD (others t e v (rows n)) 1 0 in
+    pick (leads n t b v x) y x
+
 -- From node v, reached by row e, walk towards row b in at most k nodes: each
 -- node passed adds the group that hangs from it; the last is beyond b.
 unfoldable pub walk : ℕ → List ℕ → ℕ → ℕ → ℕ → ℕ → List ℕ
 walk n t b zero v e = []
 walk n t b (suc k) v e =
-    let x = getD (others t e v (rows n)) 0 0 in
-    let y = getD (others t e v (rows n)) 1 0 in
-    let on = pick (leads n t b v x) x y in
-    let off = pick (leads n t b v x) y x in
-    beyond n t v off ∷ elim (eqb on b) [ true ↦ beyond n t v b ∷ [] | false ↦ walk n t b k (far t on v) on ]
+    let on = onward n t b v e in
+    beyond n t v (aside n t b v e)
+    ∷ elim (eqb on b) [ true ↦ beyond n t v b ∷ [] | false ↦ walk n t b k (far t on v) on ]
 
 -- The groups on the side of row a's end v, whose target is b: no row, one
 -- group, the single taxon; otherwise those on the walk.
@@ -68,5 +80,4 @@ tbrRule n t a b c y =
 -- The papers' distance of a move over y.
 unfoldable pub moveRule : ℕ → List ℕ → Move → ℕ → ℕ
 moveRule n t m y =
-    pick (eqb (m .kind) 1) (nniRule n t (m .first) y)
-    (pick (eqb (m .kind) 2) (sprRule n t (m .first) (m .second) y) (tbrRule n t (m .first) (m .second) (m .third) y))
+    byKind m (nniRule n t (m .first) y) (sprRule n t (m .first) (m .second) y) (tbrRule n t (m .first) (m .second) (m .third) y) 0

@@ -1,13 +1,15 @@
 -- The three moves of document 01, in its order, and what a move is refused
 -- for. Rows are written smaller end first.
 use Prim.Native.Nat.{ℕ, _+_, _*_, _-_, min, max}
-use mathlib.Core.Bool.{Bool, true, not, _&&_, _||_}
+use mathlib.Core.Bool.{Bool, true, false, not, _&&_, _||_}
 use mathlib.Core.List.{List, [], _∷_}
 use lib.Dec.{eqb, ltb, leb}
 use lib.ListN.{getD, set}
+use Rattle.calls.specs.declared.Refusal.{Refusal}
 use Rattle.taxa.specs.Sets.{pick, has}
 use Rattle.tree.specs.Tree.{lo, hi, rows, touches, far, others, part}
-use Rattle.tree.specs.Refusals.{Check, _else_}
+use Rattle.tree.specs.Refusals.{each}
+use Rattle.calls.specs.Calls.{Check, _else_}
 
 -- A move is four bytes: kind, then three row numbers.
 pub record Move : Type 0 where
@@ -15,6 +17,11 @@ pub record Move : Type 0 where
   pub first : ℕ
   pub second : ℕ
   pub third : ℕ
+
+-- What is meant by kind: for an NNI, for an SPR, for a TBR, and for no move.
+abbrev pub byKind : {A : Type 0} → Move → A → A → A → A → A
+byKind m one two three none =
+    pick (eqb (m .kind) 1) one (pick (eqb (m .kind) 2) two (pick (eqb (m .kind) 3) three none))
 
 -- Row r becomes u-v.
 unfoldable pub put : List ℕ → ℕ → ℕ → ℕ → List ℕ
@@ -49,12 +56,13 @@ endWith n t a b = pick (has (part n t a (lo t a)) (lo t b)) (lo t a) (hi t a)
 -- With p an end of a, f and g the other rows at p, f the lower row number, r
 -- and s their far ends, and b the row c-d: f becomes r-s, b becomes c-p, g
 -- becomes p-d.
+abbrev pub putEnd : List ℕ → ℕ → ℕ → ℕ → ℕ → List ℕ
+putEnd t p f g b = put (put (put t f (far t f p) (far t g p)) b (lo t b) p) g p (hi t b)
+
 unfoldable pub moveEnd : ℕ → List ℕ → ℕ → ℕ → ℕ → List ℕ
 moveEnd n t p a b =
     let fs = others t a p (rows n) in
-    let f = getD fs 0 0 in
-    let g = getD fs 1 0 in
-    put (put (put t f (far t f p) (far t g p)) b (lo t b) p) g p (hi t b)
+    putEnd t p (getD fs 0 0) (getD fs 1 0) b
 
 unfoldable pub spr : ℕ → List ℕ → ℕ → ℕ → List ℕ
 spr n t a b = moveEnd n t (endWith n t a b) a b
@@ -76,40 +84,56 @@ unfoldable pub target : ℕ → List ℕ → ℕ → ℕ → ℕ → Bool
 target n t a v b =
     pick (ltb v n) (eqb b a) (not (eqb b a) && has (part n t a v) (lo t b))
 
+-- Each end of a has its target: b in the part of its smaller end, c in the part
+-- of its larger end.
+abbrev pub targets : ℕ → List ℕ → ℕ → ℕ → ℕ → Bool
+targets n t a b c = target n t a (lo t a) b && target n t a (hi t a) c
+
+-- Row x touches u, and row y touches v.
+abbrev pub atBoth : List ℕ → ℕ → ℕ → ℕ → ℕ → Bool
+atBoth t x u y v = touches t x u && touches t y v
+
 -- ---- any move
 
 -- The table after a move.
 unfoldable pub moved : ℕ → List ℕ → Move → List ℕ
 moved n t m =
-    pick (eqb (m .kind) 1) (nni t (m .first) (m .second) (m .third))
-    (pick (eqb (m .kind) 2) (spr n t (m .first) (m .second)) (tbr n t (m .first) (m .second) (m .third)))
+    byKind m (nni t (m .first) (m .second) (m .third)) (spr n t (m .first) (m .second)) (tbr n t (m .first) (m .second) (m .third)) t
 
--- Kind 1 to 3, and the last byte of an SPR is 0.
+-- Kind 1 to 3, and the last row number of an SPR is 0.
 unfoldable pub kindRight : Move → Bool
-kindRight m =
-    eqb (m .kind) 1 || eqb (m .kind) 2 && eqb (m .third) 0 || eqb (m .kind) 3
+kindRight m = byKind m true (eqb (m .third) 0) true false
 
--- Each row number that the move uses is at most 2n-4.
+-- The row numbers that the move uses, and that each is at most 2n-4.
+abbrev pub usedRows : Move → List ℕ
+usedRows m =
+    let three = m .first ∷ m .second ∷ m .third ∷ [] in
+    byKind m three (m .first ∷ m .second ∷ []) three []
+
+abbrev pub allRows : ℕ → List ℕ → Bool
+allRows n rs = each (λ r. leb r (2 * n - 4)) rs
+
 unfoldable pub rowsRight : ℕ → Move → Bool
-rowsRight n m =
-    leb (m .first) (2 * n - 4) && leb (m .second) (2 * n - 4) && (eqb (m .kind) 2 || leb (m .third) (2 * n - 4))
+rowsRight n m = allRows n (usedRows m)
 
 -- The rows fit the move.
 unfoldable pub fits : ℕ → List ℕ → Move → Bool
 fits n t m =
-    pick (eqb (m .kind) 1) (nniFits n t (m .first) (m .second) (m .third))
-    (pick (eqb (m .kind) 2) (not (eqb (m .first) (m .second)))
-    (target n t (m .first) (lo t (m .first)) (m .second) && target n t (m .first) (hi t (m .first)) (m .third)))
+    let a = m .first in
+    byKind m (nniFits n t a (m .second) (m .third)) (not (eqb a (m .second))) (targets n t a (m .second) (m .third)) false
 
 -- Some end moves: in an SPR b does not touch the end p; in a TBR not both
 -- targets touch their ends of a.
 unfoldable pub anyMoves : ℕ → List ℕ → Move → Bool
 anyMoves n t m =
-    pick (eqb (m .kind) 1) true
-    (pick (eqb (m .kind) 2) (not (touches t (m .second) (endWith n t (m .first) (m .second))))
-    (not (touches t (m .second) (lo t (m .first)) && touches t (m .third) (hi t (m .first)))))
+    let a = m .first in
+    byKind m true (not (touches t (m .second) (endWith n t a (m .second)))) (not (atBoth t (m .second) (lo t a) (m .third) (hi t a))) false
 
 -- 7 to 10.
 abbrev pub moveChecks : ℕ → List ℕ → Move → List Check
 moveChecks n t m =
-    (kindRight m else 7) ∷ (rowsRight n m else 8) ∷ (fits n t m else 9) ∷ (anyMoves n t m else 10) ∷ []
+    (kindRight m else Refusal.Kind)
+    ∷ (rowsRight n m else Refusal.Row)
+    ∷ (fits n t m else Refusal.Misfit)
+    ∷ (anyMoves n t m else Refusal.Idle)
+    ∷ []

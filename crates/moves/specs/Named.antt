@@ -1,11 +1,10 @@
 -- The rows that document 01 names for a move: no other row changes.
 use Prim.Native.Nat.{ℕ}
 use mathlib.Core.List.{List, [], _∷_, _++_}
-use lib.Dec.{eqb}
 use lib.ListN.{getD}
 use Rattle.taxa.specs.Sets.{pick}
 use Rattle.tree.specs.Tree.{lo, hi, rows, touches, others}
-use Rattle.moves.specs.Moves.{Move, endWith}
+use Rattle.moves.specs.Moves.{Move, byKind, endWith}
 
 -- Where the end p of row a is moved onto row b: f, b and g, with f and g the
 -- other rows at p.
@@ -21,6 +20,5 @@ stayNamed n t p a b = pick (touches t b p) [] (endNamed n t p a b)
 -- stay.
 unfoldable pub named : ℕ → List ℕ → Move → List ℕ
 named n t m =
-    pick (eqb (m .kind) 1) (m .second ∷ m .third ∷ [])
-    (pick (eqb (m .kind) 2) (endNamed n t (endWith n t (m .first) (m .second)) (m .first) (m .second))
-    (stayNamed n t (lo t (m .first)) (m .first) (m .second) ++ stayNamed n t (hi t (m .first)) (m .first) (m .third)))
+    let a = m .first in
+    byKind m (m .second ∷ m .third ∷ []) (endNamed n t (endWith n t a (m .second)) a (m .second)) (stayNamed n t (lo t a) a (m .second) ++ stayNamed n t (hi t a) a (m .third)) []

@@ -18,7 +18,7 @@ use Rattle.tree.proofs.RowCounts.{count-mono, count-yes, pair}
 use Rattle.tree.proofs.RowsAt.{rows-at-length, without, others-without}
 use Rattle.tree.proofs.Joins.{joins-touch, touch-node}
 use Rattle.table.specs.Rowed.{Rowed}
-use Rattle.near.specs.Near.{free, hooked, Near, otherFirst, otherSecond}
+use Rattle.near.specs.Near.{free, hooked, Near, otherFirst, otherSecond, OtherTwo}
 
 -- ---- storing a row
 module _ (a : List ℕ) (v r : ℕ) where
@@ -33,6 +33,26 @@ module _ (a : List ℕ) (v r : ℕ) where
   pub hook-2 : (getD a (3 * v) 0 ≡ free → ⊥) → (getD a (3 * v + 1) 0 ≡ free → ⊥) → set a (3 * v + 2) r ≡ hooked a v r
   unfolding hooked
   hook-2 d h = rw (ne-eqb (getD a (3 * v) 0) free d, ne-eqb (getD a (3 * v + 1) 0) free h)
+
+-- ---- of the three rows at a node, those that are not e
+module _ {a : List ℕ} {v x y z : ℕ} (e : ℕ) (hx : x ≡ getD a (3 * v + 0) 0) (hy : y ≡ getD a (3 * v + 1) 0)
+    (hz : z ≡ getD a (3 * v + 2) 0) where
+  pub not-first : x ≡ e → OtherTwo e a v y z
+  not-first d =
+      let h = eq-eqb (getD a (3 * v + 0) 0) e (sym hx ∙ d) in
+      record { first = rw h hy; second = rw h hz }
+
+  pub not-second : (x ≡ e → ⊥) → y ≡ e → OtherTwo e a v x z
+  not-second d c =
+      let h = ne-eqb (getD a (3 * v + 0) 0) e (λ w. d (hx ∙ w)) in
+      let k = eq-eqb (getD a (3 * v + 1) 0) e (sym hy ∙ c) in
+      record { first = rw h hx; second = rw (h, k) hz }
+
+  pub not-third : (x ≡ e → ⊥) → (y ≡ e → ⊥) → OtherTwo e a v x y
+  not-third d c =
+      let h = ne-eqb (getD a (3 * v + 0) 0) e (λ w. d (hx ∙ w)) in
+      let k = ne-eqb (getD a (3 * v + 1) 0) e (λ w. c (hy ∙ w)) in
+      record { first = rw h hx; second = rw (h, k) hy }
 
 -- ---- the list of the rows at a node, one row more
 at-yes : (t : List ℕ) (v k : ℕ) → touches t k v ≡ true → rowsAt t v (k + 1) ≡ rowsAt t v k ++ (k ∷ [])

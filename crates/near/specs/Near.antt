@@ -51,3 +51,8 @@ abbrev pub otherSecond : ℕ → List ℕ → ℕ → ℕ
 otherSecond e a v =
     pick (eqb (getD a (3 * v + 0) 0) e) (getD a (3 * v + 2) 0)
     (pick (eqb (getD a (3 * v + 1) 0) e) (getD a (3 * v + 2) 0) (getD a (3 * v + 1) 0))
+
+-- f and g are these two
+pub record OtherTwo (e : ℕ) (a : List ℕ) (v f g : ℕ) : Type 0 where
+  pub first : f ≡ otherFirst e a v
+  pub second : g ≡ otherSecond e a v

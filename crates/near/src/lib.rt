@@ -5,7 +5,7 @@ ghost use lib.ListN.{length, getD};
 ghost use Rattle.taxa.specs.Most.{most};
 ghost use Rattle.tree.specs.Tree.{nodes};
 ghost use Rattle.table.specs.Rowed.{Rowed};
-ghost use Rattle.near.specs.Near.{noRows, hooked, Hooked, otherFirst, otherSecond};
+ghost use Rattle.near.specs.Near.{noRows, hooked, Hooked, OtherTwo};
 
 // Three places for each of the most nodes that a tree has.
 pub const PLACES: usize = 378;
@@ -64,7 +64,7 @@ pub fn row_at(near: &[u8], v: usize, k: usize) -> usize
 // The two rows at node v other than e, the lower one first.
 pub fn others(near: &[u8], e: usize, v: usize) -> Two
     requires { ⌜ (v < nodes most) × (length (now near) ≡ 3 * nodes most) ⌝ }
-    ensures { λ o. ⌜ (o .f ≡ otherFirst e (now (near .entry)) v) × (o .g ≡ otherSecond e (now (near .entry)) v) ⌝ }
+    ensures { λ o. ⌜ OtherTwo e (now (near .entry)) v (o .f) (o .g) ⌝ }
 {
     let x = row_at(near, v, 0);
     let y = row_at(near, v, 1);

@@ -9,7 +9,6 @@ use lib.Dec.{ltb}
 use lib.ListN.{length, getD}
 use borrow.Author.Tests.{ltb-true, ltb-false}
 use Rattle.taxa.proofs.Bools.{either}
-use Rattle.text.specs.Lines.{decimal}
 use Rattle.labels.specs.Heads.{valueAt}
 use Rattle.labels.proofs.HeadLaws.{among-digits, value-byte}
 use Rattle.labels.proofs.TextLaws.{one-digit, two-digits}

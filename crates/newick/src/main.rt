@@ -6,11 +6,11 @@ ghost use lib.ListN.{length};
 ghost use Rattle.tree.specs.Tree.{rows};
 ghost use Rattle.reader.specs.Promises.{Right};
 ghost use Rattle.newick.specs.Input.{LineSays, heads};
+use calls::Refusal;
 use libc::STDERR_FILENO;
 use libc::STDIN_FILENO;
 use libc::STDOUT_FILENO;
 use reader::Reading;
-use table::Refusal;
 
 // The byte of a line feed.
 const FEED: u8 = 10;
@@ -74,7 +74,7 @@ fn give(n: usize, lent: &[u8])
 // Says a refusal by its number, and leaves the line open.
 fn say(why: Refusal) {
     io::write_all(STDERR_FILENO, b"refused ");
-    io::print_decimal(STDERR_FILENO, table::number(why) as u64);
+    io::print_decimal(STDERR_FILENO, calls::number(why) as u64);
 }
 
 // Says a refusal that has no place.

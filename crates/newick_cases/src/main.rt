@@ -23,11 +23,11 @@ fn tell(answer: Reading) {
     match answer {
         Reading::Table => put(b"0 read, "),
         Reading::Refused(why) => {
-            say(table::number(why) as u64);
+            say(calls::number(why) as u64);
             put(b"refused, ");
         }
         Reading::RefusedAt(why, place) => {
-            say(table::number(why) as u64);
+            say(calls::number(why) as u64);
             put(b"at ");
             number(place as u64);
             put(b", ");
@@ -78,7 +78,7 @@ fn against(n: usize, text: &[u8], lent: &mut [u8], other: &[u8], y: u64, words: 
             put(b"apart, ");
         }
         Compared::Refused(why) => {
-            say(table::number(why) as u64);
+            say(calls::number(why) as u64);
             put(b"refused, ");
         }
     }

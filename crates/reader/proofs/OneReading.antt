@@ -7,14 +7,13 @@ use mathlib.Core.List.{List, _∷_, _++_, append-assoc}
 use Prim.Native.Nat.{ℕ, suc, _+_, _*_, _≤_, _<_}
 use native.Mathlib.Omega.{arith}
 use lib.Dec.{ltb}
-use lib.ListN.{length, take, drop, take-append-drop}
+use lib.ListN.{take, drop, take-append-drop}
 use lib.Seq.{take-take}
 use borrow.Author.Tests.{ltb-true, ltb-false}
 use Rattle.taxa.specs.Most.{most}
 use Rattle.tree.specs.Tree.{rows, Valid}
 use Rattle.tree.specs.Refusals.{Accepted}
-use Rattle.table.specs.Says.{numberOf}
-use Rattle.table.proofs.Numbers.{number-one}
+use Rattle.calls.specs.declared.Refusal.{Refusal}
 use Rattle.labels.specs.Labels.{digit}
 use Rattle.grammar.specs.Newick.{Member, Outermost, two, three, text, whole, times, timesIn, EachOnce, IsTree, GoesOn, NoTree, comma, closes}
 use Rattle.grammar.specs.Numbers.{table}
@@ -23,7 +22,8 @@ use Rattle.grammar.proofs.Low.{low-some}
 use Rattle.grammar.proofs.Valid.{table-valid}
 use Rattle.reader.specs.declared.Reading.{Reading}
 use Rattle.reader.specs.declared.Reading.the-variants as reading
-use Rattle.reader.specs.Promises.{Heard, gives, refusesAt, Right, Reads, of-count, of-text, of-room, of-tree, told, planted, readingSays, Plants}
+use Rattle.calls.specs.Calls.{Said, gives, refusesAt}
+use Rattle.reader.specs.Promises.{Right, Reads, of-count, of-text, of-room, of-tree, readingSays}
 use Rattle.reader.proofs.Members.{head-is, tail-is, over-stop, stop-at, settled}
 use Rattle.reader.proofs.Places.{as-tree}
 
@@ -109,7 +109,7 @@ one-place n s p q a b = go (ltb p q) refl (ltb q p) refl
     go false e false f = omega (arith, ltb-false p q e, ltb-false q p f)
 
 -- ---- one thing is said of a text
-pub reads-one : (n : ℕ) (s : List ℕ) (room : ℕ) (h k : Heard (List ℕ))
+pub reads-one : (n : ℕ) (s : List ℕ) (room : ℕ) (h k : Said (List ℕ))
     → Reads n s room h → Reads n s room k → h ≡ k
 reads-one n s room h k (of-count a e) (of-count b f) = e ∙ sym f
 reads-one n s room h k (of-count a e) (of-text r q b f) = absurd (a r)
@@ -117,7 +117,7 @@ reads-one n s room h k (of-count a e) (of-room r b l f) = absurd (a r)
 reads-one n s room h k (of-count a e) (of-tree r o b l f) = absurd (a r)
 reads-one n s room h k (of-text r p a e) (of-count b f) = absurd (b r)
 reads-one n s room h k (of-text r p a e) (of-text x q b f) = e
-    ∙ ap (refusesAt 14) (one-place n s p q a b) ∙ sym f
+    ∙ ap (refusesAt Refusal.Text) (one-place n s p q a b) ∙ sym f
 reads-one n s room h k (of-text r p a e) (of-room x b l f) = absurd (a .none b)
 reads-one n s room h k (of-text r p a e) (of-tree x o b l f) = absurd
     (a .none (o, b))
@@ -136,8 +136,8 @@ reads-one n s room h k (of-tree r o a l e) (of-tree x q b m f) =
     (one-tree n (r .1) o q (a .each) (b .each) (sym (a .is) ∙ b .is))
     ∙ sym f
 
--- ---- one answer, and one state of the lent table
-reading-one : (a b : Reading) → readingSays a ≡ readingSays b → a ≡ b
+-- ---- an answer is settled by what it says
+pub reading-one : (a b : Reading) → readingSays a ≡ readingSays b → a ≡ b
 reading-one reading.Table reading.Table h = refl
 reading-one reading.Table (reading.Refused r) h = absurd
     (let z : _≡_ {A = ℕ} 0 1 = cc in omega arith)
@@ -145,8 +145,8 @@ reading-one reading.Table (reading.RefusedAt r p) h = absurd
     (let z : _≡_ {A = ℕ} 0 1 = cc in omega arith)
 reading-one (reading.Refused r) reading.Table h = absurd
     (let z : _≡_ {A = ℕ} 0 1 = cc in omega arith)
-reading-one (reading.Refused r) (reading.Refused q) h = let e : numberOf r ≡ numberOf q = cc in ap reading.Refused
-    (number-one r q e)
+reading-one (reading.Refused r) (reading.Refused q) h = let e : r ≡ q = cc in ap reading.Refused
+    e
 reading-one (reading.Refused r) (reading.RefusedAt q p) h = absurd
     (let z : _≡_ {A = ℕ} 0 1 = cc in omega arith)
 reading-one (reading.RefusedAt r p) reading.Table h = absurd
@@ -154,16 +154,9 @@ reading-one (reading.RefusedAt r p) reading.Table h = absurd
 reading-one (reading.RefusedAt r p) (reading.Refused q) h = absurd
     (let z : _≡_ {A = ℕ} 0 1 = cc in omega arith)
 reading-one (reading.RefusedAt r p) (reading.RefusedAt q x) h =
-    let e : numberOf r ≡ numberOf q = cc in
+    let e : r ≡ q = cc in
     let f : p ≡ x = cc in
-    ap₂ reading.RefusedAt (number-one r q e) f
-
-pub plants-one : (n : ℕ) (s out : List ℕ) (a b : Reading) (p q : List ℕ)
-    → Plants n s out a p → Plants n s out b q → (a ≡ b) × (p ≡ q)
-plants-one n s out a b p q x y =
-    let e : x .heard ≡ y .heard = reads-one n s (length out) (x .heard)
-    (y .heard) (x .by) (y .by) in
-    (reading-one a b (x .says ∙ ap told e ∙ sym (y .says)), x .memory ∙ ap (λ (h : Heard (List ℕ)). planted h out) e ∙ sym (y .memory))
+    ap₂ reading.RefusedAt e f
 
 -- ---- the table that is given is valid, and is given for trees alone
 pub reads-valid : (n : ℕ) (s : List ℕ) (room : ℕ) (t : List ℕ)
@@ -176,7 +169,8 @@ reads-valid n s room t (of-room r a l e) = absurd
     (let z : _≡_ {A = ℕ} 0 1 = cc in omega arith)
 reads-valid n s room t (of-tree r o a l e) =
     let f : t ≡ table n o = cc in
-    record { few = r .1; valid = subst (λ (u : List ℕ). Valid n u) (sym f) (table-valid n o (r .0) (a .each)) }
+    let v : Valid n t = subst (λ (u : List ℕ). Valid n u) (sym f) (table-valid n o (r .0) (a .each)) in
+    record { few = r .1; whole = v .len; valid = v }
 
 -- With a right taxon count and room for it, a table is given exactly for the
 -- texts of the grammar.

@@ -11,7 +11,7 @@ use lib.ListN.{length, take}
 use lib.Seq.{take-all}
 use borrow.Author.Tests.{eqb-true, eqb-false}
 use Rattle.taxa.specs.Most.{most}
-use Rattle.taxa.specs.Sets.{tally, has, size}
+use Rattle.taxa.specs.Sets.{tally, size}
 use Rattle.taxa.proofs.Sets.{has-none}
 use Rattle.taxa.proofs.Sizes.{size-none}
 use Rattle.labels.specs.Labels.{Stop}

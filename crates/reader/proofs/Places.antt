@@ -13,7 +13,7 @@ use borrow.Author.Tests.{lt-ltb, ltb-true, ltb-false, eq-eqb, eqb-true}
 use Rattle.taxa.proofs.Bools.{and-left, and-right}
 use Rattle.labels.specs.Labels.{Stop}
 use Rattle.labels.proofs.TextLaws.{step}
-use Rattle.grammar.specs.Newick.{Member, taxon, group, text, IsTree, GoesOn, NoTree}
+use Rattle.grammar.specs.Newick.{Member, taxon, group, IsTree, GoesOn, NoTree}
 use Rattle.reader.specs.Slots.{Over, here}
 use Rattle.reader.proofs.Members.{head-is, nil-cons}
 

@@ -7,7 +7,7 @@ use lib.ListN.{length, take, drop, replicate}
 use lib.Seq.{take-all}
 use Rattle.taxa.specs.Most.{most}
 use Rattle.tree.specs.Tree.{rows}
-use Rattle.table.specs.declared.Refusal.the-variants.{Count, Room, Text}
+use Rattle.calls.specs.declared.Refusal.the-variants.{Count, Room, Text}
 use Rattle.grammar.specs.Newick.{Outermost, Stands}
 use Rattle.grammar.specs.Numbers.{blank, table}
 use Rattle.grammar.proofs.Valid.{table-length}
@@ -15,7 +15,9 @@ use Rattle.reader.specs.declared.Parsed.{Parsed}
 use Rattle.reader.specs.declared.Parsed.the-variants as parsed
 use Rattle.reader.specs.declared.Reading.the-variants as reading
 use Rattle.reader.specs.Stages.{ParsedIs}
-use Rattle.reader.specs.Promises.{gives, refuses, refusesAt, Right, of-count, of-text, of-room, of-tree, Plants}
+use Rattle.calls.specs.Calls.{gives, refuses, refusesAt}
+use Rattle.calls.proofs.CallLaws.{call-refuses, call-refusesAt, call-gives}
+use Rattle.reader.specs.Promises.{Right, of-count, of-text, of-room, of-tree, Plants}
 
 -- the start of a row of zeros
 take-zeros : (k m : ℕ) → k ≤ m → take {A = ℕ} k (replicate m 0) ≡ replicate k 0
@@ -29,12 +31,12 @@ zeros-blank n few = take-zeros (2 * rows n) 250 (omega (arith, few))
 
 module _ (n : ℕ) (s out : List ℕ) where
   pub wrong-count : (Right n → ⊥) → Plants n s out (reading.Refused Count) out
-  wrong-count h = record { heard = refuses 1; by = of-count h refl; says = refl; memory = refl }
+  wrong-count h = record { said = refuses Count; is = of-count h refl; call = call-refuses Count refl }
 
   module _ (right : Right n) (r : Parsed) (t : List ℕ) (P : ParsedIs n s t r) where
     pub no-tree : (p : ℕ) → r ≡ parsed.Bad p
         → Plants n s out (reading.RefusedAt Text p) out
-    no-tree p e = record { heard = refusesAt 14 p; by = of-text right p (subst (ParsedIs n s t) e P) refl; says = refl; memory = refl }
+    no-tree p e = record { said = refusesAt Text p; is = of-text right p (subst (ParsedIs n s t) e P) refl; call = call-refusesAt Text p refl }
 
     module _ (e : r ≡ parsed.Whole) where
       whole : (o : Outermost) × Stands n s o × (t ≡ table n o)
@@ -46,21 +48,19 @@ module _ (n : ℕ) (s out : List ℕ) where
       pub no-room : length out < length t
           → Plants n s out (reading.Refused Room) out
       no-room h = record {
-        heard = refuses 11;
-        by = of-room right (whole .0, whole .1)
-            (omega (arith, h, length-is)) refl;
-        says = refl;
-        memory = refl;
+        said = refuses Room;
+        is = of-room right (whole .0, whole .1) (omega (arith, h, length-is)) refl;
+        call = call-refuses Room refl;
       }
 
       pub tree-given : length t ≤ length out → (u : List ℕ)
           → u ≡ take (length t) t ++ drop (length t) out
           → Plants n s out reading.Table u
       tree-given h u q = record {
-        heard = gives (table n (whole .0));
-        by = of-tree right (whole .0) (whole .1)
+        said = gives (table n (whole .0));
+        is = of-tree right (whole .0) (whole .1)
             (omega (arith, h, length-is)) refl;
-        says = refl;
-        memory = q ∙ ap₂ _++_ (take-all (length t) t (omega arith) ∙ whole .2)
-            (ap (λ (l : List ℕ). drop (length l) out) (whole .2));
+        call = call-gives (table n (whole .0)) refl refl
+            (q ∙ ap₂ _++_ (take-all (length t) t (omega arith) ∙ whole .2)
+            (ap (λ (l : List ℕ). drop (length l) out) (whole .2)));
       }

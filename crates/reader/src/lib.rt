@@ -5,14 +5,16 @@ ghost use mathlib.Core.Path.{_≡_};
 ghost use lib.ListN.{length};
 ghost use Rattle.taxa.specs.Most.{most};
 ghost use Rattle.taxa.specs.Sets.{size};
+ghost use Rattle.table.specs.Rowed.{HasRow};
 ghost use Rattle.grammar.specs.Numbers as numbers;
 ghost use Rattle.grammar.specs.Numbers.{blank};
 ghost use Rattle.reader.specs.Slots.{Within, allowed, here};
 ghost use Rattle.reader.specs.Stages as stages;
-ghost use Rattle.reader.specs.Stages.{TakenIs, Closes, ClosedIs, Ready, GotIs, One, Two, EndIs, ParsedIs};
+ghost use Rattle.reader.specs.Stages.{TakenIs, Closes, ClosedIs, Ready, GotIs};
+ghost use Rattle.reader.specs.Stages.{One, Two, EndIs, ParsedIs};
 ghost use Rattle.reader.specs.Promises.{Plants};
+use calls::Refusal;
 use labels::Label;
-use table::Refusal;
 
 // Where the reader is: the place in the text, the number of the next group to
 // close, and the taxa read.
@@ -106,7 +108,7 @@ fn taxon_at(s: &[u8], n: usize, c: Cursor, more: bool) -> Got
 
 // Row v joins node v to node p.
 fn join(table: &mut [u8], v: usize, p: usize)
-    requires { ⌜ (2 * v + 1 < length (now table)) × (v < 256) × (p < 256) ⌝ }
+    requires { ⌜ (HasRow (now table) v) × (v < 256) × (p < 256) ⌝ }
     ensures { λ _. ⌜ now (table .exit) ≡ numbers.join v p (now (table .entry)) ⌝ }
 {
     table[2 * v] = v as u8;
@@ -182,7 +184,9 @@ fn finish(s: &[u8], at: usize) -> Parsed
 // One row joins the nodes x and y, and takes the smaller number.
 fn join_both(table: &mut [u8], x: usize, y: usize)
     requires { ⌜ (2 * numbers.smaller x y + 1 < length (now table)) × (x < 256) × (y < 256) ⌝ }
-    ensures { λ _. ⌜ now (table .exit) ≡ numbers.join (numbers.smaller x y) (numbers.larger x y) (now (table .entry)) ⌝ }
+    ensures { λ _.
+        let t = now (table .entry) in
+        ⌜ now (table .exit) ≡ numbers.join (numbers.smaller x y) (numbers.larger x y) t ⌝ }
 {
     if x < y {
         join(table, x, y);

@@ -11,7 +11,7 @@ use mir.Syntax.{w8}
 use mir.Val.{Fits}
 use Rattle.taxa.specs.Sets.{pick}
 use Rattle.tree.specs.Tree.{lo, hi, touches, far}
-use Rattle.moves.specs.Moves.{put, endOn, nni, moveEnd, stayOr}
+use Rattle.moves.specs.Moves.{put, endOn, nni, putEnd}
 
 -- ---- a row stored
 pub put-up : (t : List ℕ) (r u v : ℕ) → u < v → set (set t (2 * r) u) (2 * r + 1) v ≡ put t r u v
@@ -47,15 +47,5 @@ unfolding nni
 exchange-is t t₁ t₂ e x y p q u v hp hq hu hv h₁ h₂ = cc
 
 pub end-is : (t t₁ t₂ t₃ : List ℕ) (p f g b r s c d : ℕ) → r ≡ far t f p → s ≡ far t g p → c ≡ lo t b → d ≡ hi t b → t₁ ≡ put t f r s → t₂ ≡ put t₁ b c p → t₃ ≡ put t₂ g p d
-    → t₃ ≡ put (put (put t f (far t f p) (far t g p)) b (lo t b) p) g p (hi t b)
+    → t₃ ≡ putEnd t p f g b
 end-is t t₁ t₂ t₃ p f g b r s c d hr hs hc hd h₁ h₂ h₃ = cc
-
--- ---- an end that stays, and one that moves
-module _ (n : ℕ) (t : List ℕ) (p a b : ℕ) where
-  pub stays : touches t b p ≡ true → t ≡ stayOr n t p a b
-  unfolding stayOr
-  stays h = rw h
-
-  pub goes : touches t b p ≡ false → moveEnd n t p a b ≡ stayOr n t p a b
-  unfolding stayOr
-  goes h = rw h

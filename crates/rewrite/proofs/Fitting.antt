@@ -1,5 +1,5 @@
--- An edit that fits asks each end that moves for what it has. Assumes nothing.
-use mathlib.Core.Path.{_≡_, refl, sym, ap, ap₂, _∙_}
+-- A plan asks each end that goes for what it has. Assumes nothing.
+use mathlib.Core.Path.{_≡_, refl, sym, ap, ap₂, _∙_, subst}
 use mathlib.Core.Bool.{Bool, true, false}
 use mathlib.Core.List.{List, [], _∷_}
 use Prim.Native.Nat.{ℕ, _≤_, _<_}
@@ -7,32 +7,36 @@ use native.Mathlib.Omega.{arith}
 use Rattle.taxa.specs.Most.{most}
 use Rattle.taxa.specs.Sets.{pick}
 use Rattle.taxa.proofs.Bools.{not-both}
-use Rattle.tree.specs.Tree.{lo, hi, nodes, touches, far}
-use Rattle.tree.proofs.Joins.{lo-touch, hi-touch, far-lo, touch-node}
+use Rattle.tree.specs.Tree.{rows, nodes, touches, far, Valid}
+use Rattle.tree.proofs.RefusalLaws.{valid-accepted}
+use Rattle.tree.proofs.Joins.{touch-node}
 use Rattle.tree.proofs.RowCounts.{Pair, pair-of}
-use Rattle.near.specs.Near.{Near, otherFirst, otherSecond}
+use Rattle.near.specs.Near.{Near, OtherTwo}
 use Rattle.near.proofs.NearLaws.{near-others}
-use Rattle.moves.specs.Moves.{moveEnd, endWith, stayOr, tbr}
+use Rattle.moves.specs.Moves.{nni, moveEnd}
+use Rattle.moves.specs.Plans.{SideRight, sideMoved, planMoved}
+use Rattle.moves.specs.declared.Side.{Side}
+use Rattle.moves.specs.declared.Plan.{Plan}
 use Rattle.moves.proofs.SprMove.{EndFits, moveEnd-valid}
-use Rattle.moves.proofs.SprRule.{spr-fits}
 use Rattle.moves.proofs.Aims.{side-fits}
-use Rattle.rewrite.specs.Asked.{EndMoves, EndAims, Grafts, Cuts}
+use Rattle.moves.proofs.Plans.{PlanRight, plan-right}
+use Rattle.rewrite.specs.Asked.{EndMoves, SideMoves, Rewrites}
 use Rattle.rewrite.proofs.Kept.{touch-kept, others-kept}
 
 -- ---- the rows that the code takes at an end that moves
-module _ (n : ℕ) (t near : List ℕ) (p a b : ℕ) (k : EndMoves n t near p a b) where
+module _ {n : ℕ} {t near : List ℕ} {p a b : ℕ} (k : EndMoves n t near p a b) where
   pub p-lt : p < nodes most
   p-lt = omega (arith, touch-node n t a (k .good .valid) (k .a-lt) p (k .a-p), k .good .few)
 
-  pub two-rows : (f g : ℕ) → f ≡ otherFirst a near p → g ≡ otherSecond a near p → Pair n t a p f g
-  two-rows f g ef eg =
+  pub two-rows : {f g : ℕ} → OtherTwo a near p f g → Pair n t a p f g
+  two-rows {f} {g} o =
       pair-of n t a p f g (k .good .valid) (k .a-lt) (k .a-p) (k .inner) (touch-node n t a (k .good .valid) (k .a-lt) p (k .a-p))
-      (k .two ∙ sym (ap₂ (λ (x y : ℕ). x ∷ y ∷ []) ef eg))
+      (k .two ∙ sym (ap₂ (λ (x y : ℕ). x ∷ y ∷ []) (o .first) (o .second)))
 
 -- ---- an end that fits, in the table whose rows the array holds
 fits-moves : (n : ℕ) (t near : List ℕ) (p a b : ℕ) → n ≤ most → EndFits n t p a b → Near n t near → EndMoves n t near p a b
 fits-moves n t near p a b few k N = record {
-  good = record { few = few; valid = k .valid };
+  good = valid-accepted few (k .valid);
   a-lt = k .a-lt;
   b-lt = k .b-lt;
   a-p = k .a-p;
@@ -44,7 +48,7 @@ fits-moves n t near p a b few k N = record {
 -- the same at a's other end q, after one end has moved
 kept-moves : (n : ℕ) (t near : List ℕ) (p q a b c : ℕ) → EndFits n t p a b → far t a p ≡ q → EndMoves n t near q a c → EndMoves n (moveEnd n t p a b) near q a c
 kept-moves n t near p q a b c k e m = record {
-  good = record { few = m .good .few; valid = moveEnd-valid n t p a b k };
+  good = valid-accepted (m .good .few) (moveEnd-valid n t p a b k);
   a-lt = m .a-lt;
   b-lt = m .b-lt;
   a-p = touch-kept k q e a ∙ m .a-p;
@@ -53,49 +57,58 @@ kept-moves n t near p q a b c k e m = record {
   two = others-kept k q e ∙ m .two;
 }
 
-pub grafts-moves : (n : ℕ) (t near : List ℕ) (p a b : ℕ) → Grafts n t near p a b → EndMoves n t near p a b
-grafts-moves n t near p a b g =
-    rw (g .p-is) (fits-moves n t near (endWith n t a b) a b (g .good .few) (spr-fits n t a b (g .good .valid) (g .a-lt) (g .b-lt) (g .ab) (g .b-p)) (g .holds))
+-- ---- an end of row a that goes fits
+side-end : {n : ℕ} {t : List ℕ} {a : ℕ} {s : Side} → Valid n t → a < rows n → SideRight n t a s → s .goes ≡ true
+    → EndFits n t (s .node) a (s .target)
+side-end {n} {t} {a} {s} vt lt r g =
+    side-fits (record { valid = vt; a-lt = lt; b-lt = r .row; a-v = r .touch; fits = r .aim g .0 })
+    (λ w. not-both (touches t (s .target) (s .node)) w (r .aim g .1))
 
--- ---- a TBR that fits
-module _ (n : ℕ) (t near : List ℕ) (a b c : ℕ) (k : Cuts n t near a b c) where
-  low-fits : touches t b (lo t a) ≡ false → EndFits n t (lo t a) a b
-  low-fits h =
-      side-fits (record { valid = k .good .valid; a-lt = k .a-lt; b-lt = k .b-lt; a-v = lo-touch t a; fits = k .low }) (λ w. not-both (touches t b (lo t a)) w h)
+-- ---- the two ends of a plan
+module _ {n : ℕ} {t near : List ℕ} {p : Plan} (k : Rewrites n t near p) where
+  vt : Valid n t
+  vt = k .good .valid
 
-  high-fits : touches t c (hi t a) ≡ false → EndFits n t (hi t a) a c
-  high-fits h =
-      side-fits (record { valid = k .good .valid; a-lt = k .a-lt; b-lt = k .c-lt; a-v = hi-touch t a; fits = k .high }) (λ w. not-both (touches t c (hi t a)) w h)
+  pub rights : PlanRight n t p
+  rights = plan-right vt (k .plan)
 
-  high-moves : touches t c (hi t a) ≡ false → EndMoves n t near (hi t a) a c
-  high-moves h = fits-moves n t near (hi t a) a c (k .good .few) (high-fits h) (k .holds)
+  pub first-moves : SideMoves n t near (p .row) (p .first)
+  first-moves g =
+      fits-moves n t near (p .first .node) (p .row) (p .first .target) (k .good .few)
+      (side-end vt (rights .row) (rights .first) g) (k .holds)
 
-  -- the larger end, once the smaller one has moved or stays
-  after-low : EndAims n (stayOr n t (lo t a) a b) near (hi t a) a c
-  unfolding stayOr
-  after-low = go (touches t b (lo t a)) refl
+  alone : SideMoves n t near (p .row) (p .second)
+  alone g =
+      fits-moves n t near (p .second .node) (p .row) (p .second .target) (k .good .few)
+      (side-end vt (rights .row) (rights .second) g) (k .holds)
+
+  -- The second end, once the first has moved or stays.
+  pub second-moves : {t₁ : List ℕ} → t₁ ≡ sideMoved n t (p .row) (p .first) → SideMoves n t₁ near (p .row) (p .second)
+  second-moves {t₁} e =
+      subst (λ (u : List ℕ). SideMoves n u near (p .row) (p .second)) (sym e) (go (p .first .goes) refl)
     where
-      other : far t a (lo t a) ≡ hi t a
-      other = far-lo n t a (k .good .valid) (k .a-lt)
+      go : (b : Bool) → p .first .goes ≡ b
+          → SideMoves n (pick b (moveEnd n t (p .first .node) (p .row) (p .first .target)) t) near (p .row) (p .second)
+      go true h g =
+          kept-moves n t near (p .first .node) (p .second .node) (p .row) (p .first .target) (p .second .target)
+          (side-end vt (rights .row) (rights .first) h) (rights .ends) (alone g)
+      go false h g = alone g
 
-      go : (B : Bool) → touches t b (lo t a) ≡ B → EndAims n (pick B t (moveEnd n t (lo t a) a b)) near (hi t a) a c
-      go true e = record { good = k .good; b-lt = k .c-lt; moves = high-moves }
-      go false e =
-          let f = low-fits e in
-          record {
-            good = record { few = k .good .few; valid = moveEnd-valid n t (lo t a) a b f };
-            b-lt = k .c-lt;
-            moves = λ h. kept-moves n t near (lo t a) (hi t a) a b c f other (high-moves (sym (touch-kept f (hi t a) other c) ∙ h));
-          }
+-- ---- the table after a plan
+module _ (n : ℕ) (t : List ℕ) (p : Plan) where
+  pub exchanged : {t₁ : List ℕ} → p .nni ≡ true → t₁ ≡ nni t (p .row) (p .first .target) (p .second .target) → t₁ ≡ planMoved n t p
+  unfolding planMoved
+  exchanged h e = rw h e
 
-  -- with what the code has read and stored
-  pub low-aims : (p : ℕ) → p ≡ lo t a → EndAims n t near p a b
-  low-aims p e =
-      rw e (record { good = k .good; b-lt = k .b-lt; moves = λ h. fits-moves n t near (lo t a) a b (k .good .few) (low-fits h) (k .holds) })
+  pub both-moved : {t₁ t₂ : List ℕ} → p .nni ≡ false → t₁ ≡ sideMoved n t (p .row) (p .first)
+      → t₂ ≡ sideMoved n t₁ (p .row) (p .second) → t₂ ≡ planMoved n t p
+  unfolding planMoved
+  both-moved h e f = rw h (f ∙ ap (λ (u : List ℕ). sideMoved n u (p .row) (p .second)) e)
 
-  pub high-aims : (p q : ℕ) (t₁ : List ℕ) → p ≡ lo t a → q ≡ hi t a → t₁ ≡ stayOr n t p a b → EndAims n t₁ near q a c
-  high-aims p q t₁ e d w = rw (w, e, d) after-low
+-- ---- an end that goes, and one that stays
+module _ (n : ℕ) (t : List ℕ) (a : ℕ) (s : Side) where
+  pub goes : s .goes ≡ true → moveEnd n t (s .node) a (s .target) ≡ sideMoved n t a s
+  goes h = rw h
 
-  pub cut-is : (p q : ℕ) (t₁ t₂ : List ℕ) → p ≡ lo t a → q ≡ hi t a → t₁ ≡ stayOr n t p a b → t₂ ≡ stayOr n t₁ q a c → t₂ ≡ tbr n t a b c
-  unfolding tbr
-  cut-is p q t₁ t₂ e d w v = v ∙ ap₂ (λ (x : List ℕ) (y : ℕ). stayOr n x y a c) (w ∙ ap (λ (x : ℕ). stayOr n t x a b) e) d
+  pub stays : s .goes ≡ false → t ≡ sideMoved n t a s
+  stays h = rw h

@@ -5,8 +5,8 @@ use mathlib.Core.Bool.{Bool, true}
 use mathlib.Core.List.{List, [], _∷_, _++_}
 use lib.ListN.{length, drop}
 use lib.Dec.{eqb}
-use Rattle.taxa.specs.Sets.{pick, tally}
-use Rattle.moves.specs.Groups.{met, rule}
+use Rattle.taxa.specs.Sets.{tally}
+use Rattle.moves.specs.Groups.{met}
 
 -- f of each number on a list
 unfoldable pub mapped : (ℕ → ℕ) → List ℕ → List ℕ
@@ -18,11 +18,9 @@ unfoldable pub zeros : List ℕ → ℕ
 zeros [] = 0
 zeros (x ∷ xs) = tally (eqb x 0) + zeros xs
 
--- the distance over y from the groups gs and hs on the two sides: of an NNI 2
--- where all four are met, else 0; otherwise by the rule
-abbrev pub byGroups : Bool → List ℕ → List ℕ → ℕ → ℕ
-byGroups nni gs hs y =
-    pick nni (pick (eqb (met y gs + met y hs) 4) 2 0) (rule (met y gs) (met y hs))
+-- every group on gs meets y
+abbrev pub allMeet : ℕ → List ℕ → Bool
+allMeet y gs = eqb (met y gs) (length gs)
 
 -- what the groups gs and hs are to be: few, and of an NNI two on each side
 pub record Few (nni : Bool) (gs hs : List ℕ) : Type 0 where

@@ -1,14 +1,15 @@
 // The distances of a move over partitions, from how many of the groups about
 // it each partition meets.
-ghost use Prim.Native.Nat.{_+_, _≤_, _-_};
+ghost use Prim.Native.Nat.{_≤_, _-_};
 ghost use mathlib.Core.Path.{_≡_};
-ghost use mathlib.Core.Bool.{not};
+ghost use mathlib.Core.Bool.{not, true, false};
 ghost use lib.Dec.{eqb};
 ghost use lib.Bits.{bitAnd};
 ghost use lib.ListN.{length};
-ghost use Rattle.taxa.specs.Sets.{pick, tally, some};
+ghost use Rattle.taxa.specs.Sets.{tally, some};
 ghost use Rattle.moves.specs.Groups as groups;
-ghost use Rattle.rules.specs.Each.{Few, Judges, byGroups};
+ghost use Rattle.moves.specs.Plans.{byGroups};
+ghost use Rattle.rules.specs.Each.{allMeet, Few, Judges};
 
 // 1 where the group g meets y, else 0.
 fn meets(g: u64, y: u64) -> usize
@@ -46,7 +47,7 @@ fn some_met(gs: &[u64], y: u64) -> bool
 
 // Whether every group on gs meets y: the first that does not ends the search.
 fn all_met(gs: &[u64], y: u64) -> bool
-    ensures { λ r. ⌜ r ≡ eqb (groups.met y (now (gs .entry))) (length (now (gs .entry))) ⌝ }
+    ensures { λ r. ⌜ r ≡ allMeet y (now (gs .entry)) ⌝ }
 {
     let mut i: usize = 0;
     while i < gs.len() {
@@ -83,7 +84,7 @@ fn above_two(gs: &[u64], y: u64) -> usize
 // its row: 2 where all four are met, else 0.
 fn around(gs: &[u64], hs: &[u64], y: u64) -> u64
     requires { ⌜ (length (now gs) ≡ 2) × (length (now hs) ≡ 2) ⌝ }
-    ensures { λ r. ⌜ r ≡ pick (eqb (groups.met y (now (gs .entry)) + groups.met y (now (hs .entry))) 4) 2 0 ⌝ }
+    ensures { λ r. ⌜ r ≡ byGroups true (now (gs .entry)) (now (hs .entry)) y ⌝ }
 {
     if !all_met(gs, y) {
         return 0;
@@ -98,7 +99,7 @@ fn around(gs: &[u64], hs: &[u64], y: u64) -> u64
 // first, so that gs is counted only where it matters.
 fn rule(gs: &[u64], hs: &[u64], y: u64) -> u64
     requires { ⌜ (length (now gs) ≤ 1000) × (length (now hs) ≤ 1000) ⌝ }
-    ensures { λ r. ⌜ r ≡ groups.rule (groups.met y (now (gs .entry))) (groups.met y (now (hs .entry))) ⌝ }
+    ensures { λ r. ⌜ r ≡ byGroups false (now (gs .entry)) (now (hs .entry)) y ⌝ }
 {
     if !some_met(hs, y) {
         return 0;
@@ -126,7 +127,9 @@ pub fn distance(nni: bool, gs: &[u64], hs: &[u64], y: u64) -> u64
 // 0.
 pub fn distance_each(nni: bool, gs: &[u64], hs: &[u64], ys: &[u64], out: &mut [u64]) -> usize
     requires { ⌜ (Few nni (now gs) (now hs)) × (length (now ys) ≤ length (now out)) ⌝ }
-    ensures { λ r. ⌜ Judges (byGroups nni (now (gs .entry)) (now (hs .entry))) (now (ys .entry)) (now (out .entry)) r (now (out .exit)) ⌝ }
+    ensures { λ r.
+        let f = byGroups nni (now (gs .entry)) (now (hs .entry)) in
+        ⌜ Judges f (now (ys .entry)) (now (out .entry)) r (now (out .exit)) ⌝ }
 {
     let mut r: usize = 0;
     let mut i: usize = 0;

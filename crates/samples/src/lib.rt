@@ -56,7 +56,9 @@ pub fn along() -> [u8; 250]
 
 // Puts a byte at a place of a list, where it has room; the place after it.
 pub fn byte(list: &mut [u8], at: usize, b: u8) -> usize
-    ensures { λ r. ⌜ (r ≡ nextPlace (now (list .entry)) at) × (now (list .exit) ≡ set (now (list .entry)) at b) ⌝ }
+    ensures { λ r.
+        let l = now (list .entry) in
+        ⌜ (r ≡ nextPlace l at) × (now (list .exit) ≡ set l at b) ⌝ }
 {
     if at < list.len() {
         list[at] = b;

@@ -1,64 +1,51 @@
 -- Laws for the traversal from taxon 0. Assumes nothing.
 use mathlib.Core.Path.{_≡_, refl, sym, ap, ap₂, _∙_, subst}
 use mathlib.Core.Logic.{_⊎_, inl, inr}
-use mathlib.Core.Bool.{Bool, true, false, not, _&&_, _||_, true≢false}
+use mathlib.Core.Bool.{Bool, true, false, not, _||_, true≢false}
 use mathlib.Core.List.{List, [], _∷_}
 use Prim.Native.Nat.{ℕ, _+_, _*_, _^_, _%_, _≤_, _<_}
 use native.Mathlib.Omega.{arith}
-use lib.Dec.{eqb, ltb}
+use lib.Dec.{eqb}
 use lib.ListN.{length, getD, set, length-set}
 use lib.Seq.{getD-set-same, getD-set-other}
 use lib.Bits.{bitOr}
-use borrow.Author.Tests.{eqb-true, eqb-false, ne-eqb, ltb-true}
+use borrow.Author.Tests.{eqb-true, eqb-false, ne-eqb}
 use Rattle.taxa.specs.Most.{most}
-use Rattle.taxa.specs.Sets.{has, less, full}
-use Rattle.taxa.proofs.Bools.{either, or-cases}
-use Rattle.taxa.proofs.Sets.{has-less, has-mod, has-ones, ext}
-use Rattle.tree.specs.Tree.{lo, hi, rows, nodes, far, part, Valid}
+use Rattle.taxa.specs.Sets.{has}
+use Rattle.taxa.proofs.Bools.{either}
+use Rattle.tree.specs.Tree.{lo, hi, rows, nodes, far, part}
 use Rattle.tree.specs.Splits.{side}
 use Rattle.tree.specs.Refusals.{Accepted}
-use Rattle.tree.proofs.Joins.{touch-joins, joins-touch, joins-flip, touch-node}
+use Rattle.tree.proofs.Joins.{touch-joins, joins-touch}
 use Rattle.tree.proofs.Colourings.{two-sides}
 use Rattle.tree.proofs.RowCounts.{Pair, pair-of, leaf-only}
-use Rattle.tree.proofs.Forks.{fork, node-side, at-f, at-g, taxa-both, leaf-side}
-use Rattle.near.specs.Near.{Near, otherFirst, otherSecond}
+use Rattle.tree.proofs.Forks.{fork, node-side, taxa-both, leaf-side}
+use Rattle.tree.proofs.Ends.{EndOf, end-node, row-one}
+use Rattle.near.specs.Near.{Near, OtherTwo}
 use Rattle.near.proofs.NearLaws.{near-others}
 use Rattle.near.proofs.PlaceLaws.{Across, place-0}
 use Rattle.sides.specs.Filled.{At, Filled, Sides}
 use Rattle.sides.proofs.LookLaws.{accepted-rowed}
 
--- ---- what is known at an end
-module _ (n : ℕ) (t : List ℕ) (e v : ℕ) (a : At n t e v) where
-  pub vt : Valid n t
-  vt = a .good .valid
-
-  pub v-lt : v < nodes n
-  v-lt = touch-node n t e vt (a .row) v (a .touch)
-
-  pub row-room : 2 * e + 1 < length t
-  row-room = omega (arith, vt .len, a .row)
+-- ---- an end, as a call has it
+pub at-end : {n : ℕ} {t : List ℕ} {e v : ℕ} → At n t e v → EndOf n t e v
+at-end a = record { valid = a .good .valid; row = a .row; touch = a .touch }
 
 -- ---- the two rows that the code takes at an inner end
-module _ (n : ℕ) (t near : List ℕ) (e v f g : ℕ) (a : At n t e v) (N : Near n t near) (inner : n ≤ v) (ef : f ≡ otherFirst e near v) (eg : g ≡ otherSecond e near v) where
-  pub two : Pair n t e v f g
-  two = pair-of n t e v f g (vt n t e v a) (a .row) (a .touch) inner (v-lt n t e v a)
-      (near-others n t near e v (vt n t e v a) N (a .row) (a .touch) inner ∙ sym (ap₂ (λ (x y : ℕ). x ∷ y ∷ []) ef eg))
+pub two : {n : ℕ} {t near : List ℕ} {e v f g : ℕ} → EndOf n t e v → Near n t near → n ≤ v → OtherTwo e near v f g
+    → Pair n t e v f g
+two {n} {t} {near} {e} {v} {f} {g} a N inner o =
+    pair-of n t e v f g (a .valid) (a .row) (a .touch) inner (end-node a)
+    (near-others n t near e v (a .valid) N (a .row) (a .touch) inner
+    ∙ sym (ap₂ (λ (x y : ℕ). x ∷ y ∷ []) (o .first) (o .second)))
 
 -- ---- what lies with an inner end, at nodes that the code has found
-module _ (n : ℕ) (t : List ℕ) (e v f g x y : ℕ) (a : At n t e v) (inner : n ≤ v) (K : Pair n t e v f g) (ex : x ≡ far t f v) (ey : y ≡ far t g v) where
-  valid : Valid n t
-  valid = a .good .valid
-
-  pub go-f : At n t f x
-  go-f = rw ex (record { good = a .good; row = K .f-lt; touch = at-f n t e v f g valid (a .row) (a .touch) inner K })
-
-  pub go-g : At n t g y
-  go-g = rw ey (record { good = a .good; row = K .g-lt; touch = at-g n t e v f g valid (a .row) (a .touch) inner K })
-
-  pub union : (p q : ℕ) → p ≡ part n t f x % 2 ^ n → q ≡ part n t g y % 2 ^ n → bitOr p q ≡ part n t e v % 2 ^ n
-  union p q hp hq =
+module _ {n : ℕ} {t : List ℕ} {e v f g x y : ℕ} (a : EndOf n t e v) (inner : n ≤ v) (K : Pair n t e v f g)
+    (ex : x ≡ far t f v) (ey : y ≡ far t g v) where
+  pub union : {p q : ℕ} → p ≡ part n t f x % 2 ^ n → q ≡ part n t g y % 2 ^ n → bitOr p q ≡ part n t e v % 2 ^ n
+  union hp hq =
       ap₂ bitOr (hp ∙ ap (λ (z : ℕ). part n t f z % 2 ^ n) ex) (hq ∙ ap (λ (z : ℕ). part n t g z % 2 ^ n) ey)
-      ∙ taxa-both n t e v f g valid (a .row) (a .touch) inner K
+      ∙ taxa-both n t e v f g (a .valid) (a .row) (a .touch) inner K
 
   -- a row that lies with v is e, f or g, or lies beyond f or beyond g
   row-where : (r : ℕ) → r < rows n → has (part n t e v) (lo t r) ≡ true
@@ -66,7 +53,7 @@ module _ (n : ℕ) (t : List ℕ) (e v f g x y : ℕ) (a : At n t e v) (inner : 
   row-where r l p = go (either (eqb r e)) (either (eqb r f)) (either (eqb r g))
     where
       low : lo t r < nodes n
-      low = omega (arith, valid .order r l .0, valid .order r l .1)
+      low = omega (arith, a .valid .order r l .0, a .valid .order r l .1)
 
       last : (x y z : Bool) → (x || y || z) ≡ true → z ≡ false → (x ≡ true) ⊎ (y ≡ true)
       last true y z h w = inl refl
@@ -79,37 +66,15 @@ module _ (n : ℕ) (t : List ℕ) (e v f g x y : ℕ) (a : At n t e v) (inner : 
       go (inr x) (inl y) z = inr (inl (eqb-true r f y))
       go (inr x) (inr y) (inl z) = inr (inr (inl (eqb-true r g z)))
       go (inr x) (inr y) (inr z) =
-          inr (inr (inr (last (has (part n t f (far t f v)) (lo t r)) (has (part n t g (far t g v)) (lo t r)) (eqb v (lo t r))
-          (sym (node-side n t e v f g valid (a .row) (a .touch) inner K (lo t r) low) ∙ p)
-          (ne-eqb v (lo t r) (fork n t e v f g valid (a .row) (a .touch) inner K .only r l (eqb-false r e x) (eqb-false r f y) (eqb-false r g z) .0)))))
-
--- ---- the side of a row, from what lies with one end
-module _ (n : ℕ) (t : List ℕ) (e v : ℕ) (a : At n t e v) where
-  pub side-lo : lo t e ≡ v → part n t e v % 2 ^ n ≡ side n t e
-  unfolding side
-  side-lo d = ap (λ (x : ℕ). part n t e x % 2 ^ n) (sym d)
-
-  pub side-hi : (lo t e ≡ v → ⊥) → less (full n) (part n t e v % 2 ^ n) ≡ side n t e
-  unfolding side
-  side-hi d = ext (less (full n) (part n t e v % 2 ^ n)) (part n t e (lo t e) % 2 ^ n) (λ i.
-      has-less (full n) (part n t e v % 2 ^ n) i
-      ∙ ap₂ (λ (p q : Bool). p && not q) (has-ones n i) (has-mod n (part n t e v) i)
-      ∙ at i (either (ltb i n)) ∙ sym (has-mod n (part n t e (lo t e)) i))
-    where
-      hv : hi t e ≡ v
-      hv = go (or-cases (eqb (lo t e) v) (eqb (hi t e) v) (a .touch))
-        where
-          go : (eqb (lo t e) v ≡ true) ⊎ (eqb (hi t e) v ≡ true) → hi t e ≡ v
-          go (inl w) = absurd (d (eqb-true (lo t e) v w))
-          go (inr w) = eqb-true (hi t e) v w
-
-      at : (i : ℕ) → (ltb i n ≡ true) ⊎ (ltb i n ≡ false) → (ltb i n && not (ltb i n && has (part n t e v) i)) ≡ (ltb i n && has (part n t e (lo t e)) i)
-      at i (inl w) = rw w (sym (two-sides n t e v (lo t e) (a .good .valid) (a .row) (inr (refl, hv)) i (omega (arith, ltb-true i n w, a .good .valid .big))))
-      at i (inr w) = rw w
+          let all = node-side n t e v f g (a .valid) (a .row) (a .touch) inner K (lo t r) low in
+          let k = fork n t e v f g (a .valid) (a .row) (a .touch) inner K in
+          let away = k .only r l (eqb-false r e x) (eqb-false r f y) (eqb-false r g z) .0 in
+          inr (inr (inr (last (has (part n t f (far t f v)) (lo t r)) (has (part n t g (far t g v)) (lo t r)) (eqb v (lo t r)) (sym all ∙ p) (ne-eqb v (lo t r) away))))
 
 -- ---- what is stored
-module _ (n : ℕ) (t : List ℕ) (e v : ℕ) (a : At n t e v) where
-  stored-keep : (s : List ℕ) (r : ℕ) → rows n ≤ length s → r < rows n → getD s r 0 ≡ side n t r → getD (set s e (side n t e)) r 0 ≡ side n t r
+module _ {n : ℕ} {t : List ℕ} {e v : ℕ} (a : EndOf n t e v) where
+  stored-keep : (s : List ℕ) (r : ℕ) → rows n ≤ length s → r < rows n → getD s r 0 ≡ side n t r
+      → getD (set s e (side n t e)) r 0 ≡ side n t r
   stored-keep s r l h p = go (either (eqb r e))
     where
       go : (eqb r e ≡ true) ⊎ (eqb r e ≡ false) → getD (set s e (side n t e)) r 0 ≡ side n t r
@@ -119,30 +84,27 @@ module _ (n : ℕ) (t : List ℕ) (e v : ℕ) (a : At n t e v) where
   stored-here : (s : List ℕ) → rows n ≤ length s → getD (set s e (side n t e)) e 0 ≡ side n t e
   stored-here s l = getD-set-same s e (side n t e) 0 (omega (arith, a .row))
 
-  -- a taxon's side has no other row
-  pub row-one : v < n → (r : ℕ) → r < rows n → has (part n t e v) (lo t r) ≡ true → r ≡ e
-  row-one tax r l p =
-      let low : lo t r < nodes n = omega (arith, a .good .valid .order r l .0, a .good .valid .order r l .1) in
-      let w : v ≡ lo t r = eqb-true v (lo t r) (sym (leaf-side n t e v (a .good .valid) tax (a .row) (a .touch) (lo t r) low) ∙ p) in
-      leaf-only n t v e (a .good .valid) tax (a .row) (a .touch) r l (joins-touch t r v (hi t r) (inl (sym w, refl)))
+  pub filled-one : {s s′ : List ℕ} → v < n → rows n ≤ length s → s′ ≡ set s e (side n t e) → Filled n t e v s s′
+  filled-one {s} tax l p =
+      subst (λ (x : List ℕ). Filled n t e v s x) (sym p)
+      (record {
+        len = length-set s e (side n t e);
+        keep = λ r h q. stored-keep s r l h q;
+        here = stored-here s l;
+        inside = λ r h q.
+            subst (λ (x : ℕ). getD (set s e (side n t e)) x 0 ≡ side n t x) (sym (row-one a tax r h q)) (stored-here s l);
+      })
 
-  pub filled-one : (s s′ : List ℕ) → v < n → rows n ≤ length s → s′ ≡ set s e (side n t e) → Filled n t e v s s′
-  filled-one s s′ tax l p = subst (λ (x : List ℕ). Filled n t e v s x) (sym p) (record {
-    len = length-set s e (side n t e);
-    keep = λ r h q. stored-keep s r l h q;
-    here = stored-here s l;
-    inside = λ r h q. subst (λ (x : ℕ). getD (set s e (side n t e)) x 0 ≡ side n t x) (sym (row-one tax r h q)) (stored-here s l);
-  })
-
-  pub filled-two : (f g x y : ℕ) (s s₁ s₂ s₃ : List ℕ) → n ≤ v → Pair n t e v f g → x ≡ far t f v → y ≡ far t g v → rows n ≤ length s
-      → Filled n t f x s s₁ → Filled n t g y s₁ s₂ → s₃ ≡ set s₂ e (side n t e) → Filled n t e v s s₃
-  filled-two f g x y s s₁ s₂ s₃ inner K ex ey l F G p =
+  pub filled-two : {f g x y : ℕ} {s s₁ s₂ s₃ : List ℕ} → n ≤ v → Pair n t e v f g → x ≡ far t f v → y ≡ far t g v
+      → rows n ≤ length s → Filled n t f x s s₁ → Filled n t g y s₁ s₂ → s₃ ≡ set s₂ e (side n t e) → Filled n t e v s s₃
+  filled-two {f} {g} {x} {y} {s} {s₁} {s₂} inner K ex ey l F G p =
       let l₂ : rows n ≤ length s₂ = omega (arith, F .len, G .len) in
-      subst (λ (z : List ℕ). Filled n t e v s z) (sym p) (record {
+      subst (λ (z : List ℕ). Filled n t e v s z) (sym p)
+      (record {
         len = length-set s₂ e (side n t e) ∙ G .len ∙ F .len;
         keep = λ r h q. stored-keep s₂ r l₂ h (G .keep r h (F .keep r h q));
         here = stored-here s₂ l₂;
-        inside = λ r h q. go l₂ r h (row-where n t e v f g x y a inner K ex ey r h q);
+        inside = λ r h q. go l₂ r h (row-where a inner K ex ey r h q);
       })
     where
       go : rows n ≤ length s₂ → (r : ℕ) → r < rows n
@@ -151,33 +113,33 @@ module _ (n : ℕ) (t : List ℕ) (e v : ℕ) (a : At n t e v) where
       go l₂ r h (inl d) = subst (λ (z : ℕ). getD (set s₂ e (side n t e)) z 0 ≡ side n t z) (sym d) (stored-here s₂ l₂)
       go l₂ r h (inr (inl d)) =
           stored-keep s₂ r l₂ h (G .keep r h (subst (λ (z : ℕ). getD s₁ z 0 ≡ side n t z) (sym d) (F .here)))
-      go l₂ r h (inr (inr (inl d))) = stored-keep s₂ r l₂ h (subst (λ (z : ℕ). getD s₂ z 0 ≡ side n t z) (sym d) (G .here))
-      go l₂ r h (inr (inr (inr (inl q)))) = stored-keep s₂ r l₂ h (G .keep r h (F .inside r h (ap (λ (z : ℕ). has (part n t f z) (lo t r)) ex ∙ q)))
-      go l₂ r h (inr (inr (inr (inr q)))) = stored-keep s₂ r l₂ h (G .inside r h (ap (λ (z : ℕ). has (part n t g z) (lo t r)) ey ∙ q))
+      go l₂ r h (inr (inr (inl d))) =
+          stored-keep s₂ r l₂ h (subst (λ (z : ℕ). getD s₂ z 0 ≡ side n t z) (sym d) (G .here))
+      go l₂ r h (inr (inr (inr (inl q)))) =
+          stored-keep s₂ r l₂ h (G .keep r h (F .inside r h (ap (λ (z : ℕ). has (part n t f z) (lo t r)) ex ∙ q)))
+      go l₂ r h (inr (inr (inr (inr q)))) =
+          stored-keep s₂ r l₂ h (G .inside r h (ap (λ (z : ℕ). has (part n t g z) (lo t r)) ey ∙ q))
 
 -- ---- from taxon 0 every row is met
-module _ (n : ℕ) (t near : List ℕ) (e v : ℕ) (good : Accepted n t) (N : Near n t near) (ee : e ≡ getD near (3 * 0 + 0) 0) (ev : v ≡ far t e 0) where
-  zero-row : Across n t 0 e
-  zero-row = place-0 n t near 0 (accepted-rowed n t good) N (omega (arith, good .valid .big)) e ee
+pub all-sides : (n : ℕ) (t near : List ℕ) (e v : ℕ) (good : Accepted n t) (N : Near n t near) → e ≡ getD near (3 * 0 + 0) 0
+    → v ≡ far t e 0 → {s s′ : List ℕ} → length s ≡ rows most → Filled n t e v s s′ → Sides n t s′
+all-sides n t near e v good N ee ev {s} {s′} room F =
+    record { room = F .len ∙ room; right = λ r h. go r h (either (eqb r e)) }
+  where
+    tax : 0 < n
+    tax = omega (arith, good .valid .big)
 
-  pub zero-room : 2 * e + 1 < length t
-  zero-room = omega (arith, good .valid .len, zero-row .row)
+    row : Across n t 0 e
+    row = place-0 n t near 0 (accepted-rowed n t good) N (omega (arith, good .valid .big)) e ee
 
-  pub start : At n t e v
-  start = rw ev (record { good = good; row = zero-row .row; touch = joins-touch t e (far t e 0) 0 (joins-flip t e 0 (far t e 0) (touch-joins t e 0 (zero-row .at))) })
-
-  pub all-sides : (s s′ : List ℕ) → length s ≡ rows most → Filled n t e v s s′ → Sides n t s′
-  all-sides s s′ room F = record { room = F .len ∙ room; right = λ r h. go r h (either (eqb r e)) }
-    where
-      tax : 0 < n
-      tax = omega (arith, good .valid .big)
-
-      go : (r : ℕ) → r < rows n → (eqb r e ≡ true) ⊎ (eqb r e ≡ false) → getD s′ r 0 ≡ side n t r
-      go r h (inl w) = subst (λ (x : ℕ). getD s′ x 0 ≡ side n t x) (sym (eqb-true r e w)) (F .here)
-      go r h (inr w) =
-          let low : lo t r < nodes n = omega (arith, good .valid .order r h .0, good .valid .order r h .1) in
-          let d : 0 ≡ lo t r → ⊥ = λ x. eqb-false r e w (leaf-only n t 0 e (good .valid) tax (zero-row .row) (zero-row .at) r h (joins-touch t r 0 (hi t r) (inl (sym x, refl)))) in
-          F .inside r h (
-          ap (λ (x : ℕ). has (part n t e x) (lo t r)) ev
-          ∙ two-sides n t e 0 (far t e 0) (good .valid) (zero-row .row) (touch-joins t e 0 (zero-row .at)) (lo t r) low
-          ∙ ap not (leaf-side n t e 0 (good .valid) tax (zero-row .row) (zero-row .at) (lo t r) low ∙ ne-eqb 0 (lo t r) d))
+    go : (r : ℕ) → r < rows n → (eqb r e ≡ true) ⊎ (eqb r e ≡ false) → getD s′ r 0 ≡ side n t r
+    go r h (inl w) = subst (λ (x : ℕ). getD s′ x 0 ≡ side n t x) (sym (eqb-true r e w)) (F .here)
+    go r h (inr w) =
+        let low : lo t r < nodes n = omega (arith, good .valid .order r h .0, good .valid .order r h .1) in
+        let at-zero : 0 ≡ lo t r → r ≡ e = λ x.
+        leaf-only n t 0 e (good .valid) tax (row .row) (row .at) r h (joins-touch t r 0 (hi t r) (inl (sym x, refl))) in
+        let d : 0 ≡ lo t r → ⊥ = λ x. eqb-false r e w (at-zero x) in
+        F .inside r h (
+        ap (λ (x : ℕ). has (part n t e x) (lo t r)) ev
+        ∙ two-sides n t e 0 (far t e 0) (good .valid) (row .row) (touch-joins t e 0 (row .at)) (lo t r) low
+        ∙ ap not (leaf-side n t e 0 (good .valid) tax (row .row) (row .at) (lo t r) low ∙ ne-eqb 0 (lo t r) d))

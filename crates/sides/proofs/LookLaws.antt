@@ -1,19 +1,22 @@
 -- What the check of a tree says at each test of the code. Assumes nothing.
 use mathlib.Core.Path.{_≡_, sym, ap, _∙_}
-use mathlib.Core.Bool.{true, false}
+use mathlib.Core.Bool.{Bool, true, false}
 use mathlib.Core.List.{List, [], _++_}
 use Prim.Native.Nat.{ℕ}
 use native.Mathlib.Omega.{arith}
 use Rattle.tree.specs.Tree.{nodes, fromZero, every}
-use Rattle.tree.specs.Refusals.{gives, refuses, judged, countChecks, rowChecks, reachChecks, treeChecks, rowSaid, treeSaid, Accepted}
-use Rattle.tree.proofs.RefusalLaws.{judged-pass, judged-next, judged-fail, gives-pass, refuses-more, pass-accepted}
-use Rattle.table.specs.Says.{numberOf, checkSays}
+use Rattle.calls.specs.Calls.{gives, refuses, judged}
+use Rattle.tree.specs.Refusals.{countChecks, rowChecks, reachChecks, treeChecks, treeSaid, Accepted}
+use Rattle.calls.proofs.CheckLaws.{judged-pass, judged-next, judged-fail, gives-pass, refuses-more}
+use Rattle.tree.proofs.RefusalLaws.{pass-accepted}
+use Rattle.table.specs.Says.{checkSays, rowSaid}
 use Rattle.table.specs.Rowed.{Rowed}
 use Rattle.table.specs.declared.Checked.{Checked}
-use Rattle.table.specs.declared.Refusal.{Refusal}
+use Rattle.table.proofs.Stages.{said-rowed}
+use Rattle.calls.specs.declared.Refusal.{Refusal}
 use Rattle.near.specs.Near.{Near}
-use Rattle.sides.specs.Filled.{Sides}
-use Rattle.sides.specs.Walked.{Found}
+use Rattle.sides.specs.Filled.{Sided, Looked}
+use Rattle.sides.specs.Walked.{Reached, Found}
 
 module _ (n : ℕ) (t : List ℕ) where
   past-4 : rowSaid n t ≡ gives tt → treeSaid n t ≡ judged (reachChecks n t) (tt {0})
@@ -21,30 +24,43 @@ module _ (n : ℕ) (t : List ℕ) where
 
   is-tree : rowSaid n t ≡ gives tt → every (fromZero n t) (nodes n) ≡ true → gives (tt {0}) ≡ treeSaid n t
   unfolding judged
-  is-tree h r = sym (past-4 h ∙ judged-next (every (fromZero n t) (nodes n)) 5 [] tt r)
+  is-tree h r = sym (past-4 h ∙ judged-next (every (fromZero n t) (nodes n)) Refusal.Unreached [] tt r)
 
-  is-5 : rowSaid n t ≡ gives tt → every (fromZero n t) (nodes n) ≡ false → refuses 5 ≡ treeSaid n t
-  is-5 h r = sym (past-4 h ∙ judged-fail (every (fromZero n t) (nodes n)) 5 [] tt r)
+  is-5 : rowSaid n t ≡ gives tt → every (fromZero n t) (nodes n) ≡ false → refuses Refusal.Unreached ≡ treeSaid n t
+  is-5 h r = sym (past-4 h ∙ judged-fail (every (fromZero n t) (nodes n)) Refusal.Unreached [] tt r)
 
   -- a refusal gives no tree
-  not-tree : {X : Type 0} (k : ℕ) → refuses k ≡ treeSaid n t → treeSaid n t ≡ gives tt → X
+  not-tree : {X : Type 0} (k : Refusal) → refuses k ≡ treeSaid n t → treeSaid n t ≡ gives tt → X
   not-tree k h g = absurd (let z : _≡_ {A = ℕ} 0 1 = cc in omega arith)
 
-  pub found-rows : (c : Checked) (k : ℕ) (a s : List ℕ) → rowSaid n t ≡ refuses k → checkSays c ≡ refuses k → Found n t c a s
-  found-rows c k a s h w =
-      let e : refuses k ≡ treeSaid n t = sym (refuses-more (countChecks n ++ rowChecks n t) (reachChecks n t) tt tt k h) in
-      record { says = w ∙ e; near = not-tree k e; sides = not-tree k e }
+-- ---- what is found, at each return of the look; c is what the checks 1 to 4
+-- answer
+rows-right : (n : ℕ) (t : List ℕ) {c : Checked} → checkSays c ≡ rowSaid n t → c ≡ Checked.Tree → rowSaid n t ≡ gives tt
+rows-right n t e h = sym e ∙ ap checkSays h
 
-  pub found-tree : (c : Checked) (a s : List ℕ) → rowSaid n t ≡ gives tt → every (fromZero n t) (nodes n) ≡ true → checkSays c ≡ gives tt → Near n t a → (Accepted n t → Sides n t s)
-      → Found n t c a s
-  found-tree c a s h r w N S = record {
-    says = w ∙ is-tree h r;
-    near = λ g. N;
-    sides = λ g. S (pass-accepted n t (gives-pass (treeChecks n t) tt tt g));
-  }
+pub found-rowed : (n : ℕ) (t : List ℕ) {c : Checked} → checkSays c ≡ rowSaid n t → c ≡ Checked.Tree → Rowed n t
+found-rowed n t e h = said-rowed n t (rows-right n t e h)
 
-  pub found-5 : (c : Checked) (a s : List ℕ) → rowSaid n t ≡ gives tt → every (fromZero n t) (nodes n) ≡ false → checkSays c ≡ refuses 5 → Found n t c a s
-  found-5 c a s h r w = let e = is-5 h r in record { says = w ∙ e; near = not-tree 5 e; sides = not-tree 5 e }
+module _ {n : ℕ} {t : List ℕ} {c : Checked} (rows-say : checkSays c ≡ rowSaid n t) {near s : List ℕ} where
+  pub found-rows : {k : Refusal} → c ≡ Checked.Refused k → Found n t (Checked.Refused k) near s
+  found-rows {k} h =
+      let said : rowSaid n t ≡ refuses k = sym rows-say ∙ ap checkSays h in
+      let e : refuses k ≡ treeSaid n t = sym (refuses-more (countChecks n ++ rowChecks n t) (reachChecks n t) tt tt k said) in
+      record { says = e; near = not-tree n t k e; sides = not-tree n t k e }
+
+  module _ (h : c ≡ Checked.Tree) {b : Bool} (R : Reached n t b s) where
+    pub found-tree : Near n t near → b ≡ true → Found n t Checked.Tree near s
+    found-tree N w =
+        record {
+          says = is-tree n t (rows-right n t rows-say h) (sym (R .all) ∙ w);
+          near = λ g. N;
+          sides = λ g. R .sides (pass-accepted n t (gives-pass (treeChecks n t) tt tt g));
+        }
+
+    pub found-5 : b ≡ false → Found n t (Checked.Refused Refusal.Unreached) near s
+    found-5 w =
+        let e = is-5 n t (rows-right n t rows-say h) (sym (R .all) ∙ w) in
+        record { says = e; near = not-tree n t Refusal.Unreached e; sides = not-tree n t Refusal.Unreached e }
 
 -- a tree's table has its rows
 pub accepted-rowed : (n : ℕ) (t : List ℕ) → Accepted n t → Rowed n t
@@ -55,10 +71,21 @@ accepted-rowed n t a = record {
 }
 
 -- what an answer of the check tells
-pub found-tree-is : (n : ℕ) (t : List ℕ) (c : Checked) (a s : List ℕ) → Found n t c a s → c ≡ Checked.Tree → (Accepted n t) × (Near n t a) × (Sides n t s)
-found-tree-is n t c a s f e =
-    let g : treeSaid n t ≡ gives tt = sym (f .says) ∙ ap checkSays e in
-    (pass-accepted n t (gives-pass (treeChecks n t) tt tt g), f .near g, f .sides g)
+module _ {n : ℕ} {t : List ℕ} {c : Checked} {near s : List ℕ} (f : Found n t c near s) where
+  pub found-given : treeSaid n t ≡ gives tt → Looked n t near s
+  found-given g =
+      record {
+        good = pass-accepted n t (gives-pass (treeChecks n t) tt tt g);
+        rows = f .near g;
+        sides = f .sides g;
+      }
 
-pub found-refused : (n : ℕ) (t : List ℕ) (c : Checked) (a s : List ℕ) (r : Refusal) → Found n t c a s → c ≡ Checked.Refused r → treeSaid n t ≡ refuses (numberOf r)
-found-refused n t c a s r f e = sym (f .says) ∙ ap checkSays e
+  pub found-looked : c ≡ Checked.Tree → Looked n t near s
+  found-looked e = found-given (sym (f .says) ∙ ap checkSays e)
+
+  pub found-refused : {r : Refusal} → c ≡ Checked.Refused r → treeSaid n t ≡ refuses r
+  found-refused e = sym (f .says) ∙ ap checkSays e
+
+-- a tree that was looked at has its sides
+pub looked-sided : {n : ℕ} {t near s : List ℕ} → Looked n t near s → Sided n t s
+looked-sided l = record { good = l .good; sides = l .sides }

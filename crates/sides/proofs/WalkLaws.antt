@@ -20,22 +20,23 @@ use Rattle.tree.proofs.Joins.{join-flat, flat-join, touch-joins}
 use Rattle.tree.proofs.RowCounts.{Pair}
 use Rattle.tree.proofs.Colourings.{FlatAll, one-colour, hangs}
 use Rattle.tree.proofs.Forks.{fork, hang-f, hang-g, node-side, taxa-one}
+use Rattle.tree.proofs.Ends.{EndOf, side-lo, side-hi}
 use Rattle.table.specs.Rowed.{Rowed}
-use Rattle.near.specs.Near.{Near, otherFirst, otherSecond}
+use Rattle.near.specs.Near.{Near, OtherTwo}
 use Rattle.near.proofs.PlaceLaws.{Across, place-0, all-one, node-lt, at-taxon, at-inner, across-first, across-second, across-zero, across-touch, across-back, zero-start}
-use Rattle.sides.specs.Filled.{At, Sides}
+use Rattle.sides.specs.Filled.{Sides}
 use Rattle.sides.specs.Marks.{mark}
 use Rattle.sides.specs.Walked.{noted, Walks, Fresh, Told, Walked}
-use Rattle.sides.proofs.FillLaws.{two, union, side-lo, side-hi, filled-one, filled-two, all-sides}
-use Rattle.sides.proofs.MarkLaws.{mark-same, mark-other, mark-kept, mark-none, spread-none, spread-both, visited-already, visited-of, marks-reached}
+use Rattle.sides.proofs.FillLaws.{two, union, filled-one, filled-two, all-sides}
+use Rattle.sides.proofs.MarkLaws.{left, left-set, mark-same, mark-other, mark-kept, mark-none, spread-none, spread-both, visited-already, visited-of, marks-reached}
 
 -- ---- what is stored is the side
-pub noted-side : (n : ℕ) (t : List ℕ) (e v s : ℕ) → At n t e v → s ≡ part n t e v % 2 ^ n → noted n t e v s ≡ side n t e
+pub noted-side : (n : ℕ) (t : List ℕ) (e v s : ℕ) → EndOf n t e v → s ≡ part n t e v % 2 ^ n → noted n t e v s ≡ side n t e
 noted-side n t e v s A h = go (either (eqb (lo t e) v))
   where
     go : (eqb (lo t e) v ≡ true) ⊎ (eqb (lo t e) v ≡ false) → noted n t e v s ≡ side n t e
-    go (inl w) = ap (λ (b : Bool). pick b s (less (full n) s)) w ∙ h ∙ side-lo n t e v A (eqb-true (lo t e) v w)
-    go (inr w) = ap (λ (b : Bool). pick b s (less (full n) s)) w ∙ ap (less (full n)) h ∙ side-hi n t e v A (eqb-false (lo t e) v w)
+    go (inl w) = ap (λ (b : Bool). pick b s (less (full n) s)) w ∙ h ∙ side-lo A (eqb-true (lo t e) v w)
+    go (inr w) = ap (λ (b : Bool). pick b s (less (full n) s)) w ∙ ap (less (full n)) h ∙ side-hi A (eqb-false (lo t e) v w)
 
 -- ---- no node hangs by both of two rows at a node
 module _ (n : ℕ) (t : List ℕ) (e v f g : ℕ) (vt : Valid n t) (le : e < rows n) (te : touches t e v ≡ true) (inner : n ≤ v) (K : Pair n t e v f g) where
@@ -115,15 +116,25 @@ walks-on n t near ms ss v r x R N A z m lm ls ex = rw ex (record {
 })
 
 -- ---- what a walk leaves, at each return of the code
-module _ (n : ℕ) (t near ms ss : List ℕ) (e v : ℕ) (W : Walks n t near ms ss e v) where
+module _ {n : ℕ} {t near ms ss : List ℕ} {e v : ℕ} (W : Walks n t near ms ss e v) where
   pub v-lt : v < nodes n
   v-lt = node-lt n t near e v (W .rowed) (W .near) (W .row) (W .touch)
 
   pub v-room : v < length ms
   v-room = omega (arith, v-lt, W .for-marks, W .rowed .ordered .few)
 
-  at-end : Accepted n t → At n t e v
-  at-end good = record { good = good; row = W .row; touch = W .touch }
+  -- what the storing of a side asks for
+  pub notes : (4 ≤ n) × (n ≤ most) × (2 * e + 1 < length t) × (e < rows most)
+  notes =
+      let o = W .rowed .ordered in
+      (o .big, o .few, omega (arith, W .row, o .len), omega (arith, W .row, o .few))
+
+  -- a mark more leaves fewer places without one
+  pub left-falls : mark ms v ≡ false → left (set ms v 1) < left ms
+  left-falls h = left-set ms v (W .for-marks) (omega (arith, v-lt, W .rowed .ordered .few)) h
+
+  at-end : Accepted n t → EndOf n t e v
+  at-end good = record { valid = good .valid; row = W .row; touch = W .touch }
 
   sides-room : rows n ≤ length ss
   sides-room = omega (arith, W .for-sides, W .rowed .ordered .few)
@@ -144,8 +155,8 @@ module _ (n : ℕ) (t near ms ss : List ℕ) (e v : ℕ) (W : Walks n t near ms 
         go (inl w) = eqb-true u v w
         go (inr w) = absurd (true≢false (sym b ∙ mark-other ms v u (eqb-false u v w) ∙ a))
 
-    pub walked-taxon : (s : ℕ) (ss′ : List ℕ) → v < n → s ≡ 2 ^ v → ss′ ≡ set ss e (noted n t e v s) → Walked n t e v ms (set ms v 1) ss ss′ s
-    walked-taxon s ss′ l es ed = record {
+    pub walked-taxon : {s : ℕ} {ss′ : List ℕ} → v < n → s ≡ 2 ^ v → ss′ ≡ set ss e (noted n t e v s) → Walked n t e v ms (set ms v 1) ss ss′ s
+    walked-taxon {s} {ss′} l es ed = record {
       visited = visited-of n t v ms (set ms v 1) v-room (W .reached) h (spread-none n t (set ms v 1))
           (at-taxon n t near e v (W .rowed) (W .near) (W .row) (W .touch) l (λ r. mark (set ms v 1) (far t r v) ≡ true) (mark-kept ms v (far t e v) v-room (W .behind)));
       len = ap length ed ∙ length-set ss e (noted n t e v s);
@@ -154,17 +165,17 @@ module _ (n : ℕ) (t near ms ss : List ℕ) (e v : ℕ) (W : Walks n t near ms 
           let es′ : s ≡ part n t e v % 2 ^ n = es ∙ taxa-one n t e v (good .valid) l (W .row) (W .touch) in
           record {
             taxa = es′;
-            filled = filled-one n t e v A ss ss′ l sides-room (ed ∙ ap (set ss e) (noted-side n t e v s A es′));
+            filled = filled-one A l sides-room (ed ∙ ap (set ss e) (noted-side n t e v s A es′));
             within = λ u lu a b. ap (has (part n t e v)) (new-mark u a b) ∙ part-start n t e v;
           };
     }
 
-    module _ (f g x y : ℕ) (inner : n ≤ v) (ef : f ≡ otherFirst e near v) (eg : g ≡ otherSecond e near v) (ex : x ≡ far t f v) (ey : y ≡ far t g v) where
+    module _ {f g : ℕ} (inner : n ≤ v) (o : OtherTwo e near v f g) where
       A-first : Across n t v f
-      A-first = across-first n t near e v (W .rowed) (W .near) (W .row) (W .touch) inner f g ef eg
+      A-first = across-first n t near e v (W .rowed) (W .near) (W .row) (W .touch) inner f g (o .first) (o .second)
 
       A-second : Across n t v g
-      A-second = across-second n t near e v (W .rowed) (W .near) (W .row) (W .touch) inner f g ef eg
+      A-second = across-second n t near e v (W .rowed) (W .near) (W .row) (W .touch) inner f g (o .first) (o .second)
 
       pub first-room : 2 * f + 1 < length t
       first-room = omega (arith, A-first .row, W .rowed .ordered .len)
@@ -172,27 +183,28 @@ module _ (n : ℕ) (t near ms ss : List ℕ) (e v : ℕ) (W : Walks n t near ms 
       pub second-room : 2 * g + 1 < length t
       second-room = omega (arith, A-second .row, W .rowed .ordered .len)
 
+    module _ {f g x y : ℕ} (inner : n ≤ v) (o : OtherTwo e near v f g) (ex : x ≡ far t f v) (ey : y ≡ far t g v) where
       pub walks-first : Walks n t near (set ms v 1) ss f x
-      walks-first = walks-on n t near (set ms v 1) ss v f x (W .rowed) (W .near) A-first (W .reached) (mark-same ms v v-room) (length-set ms v 1 ∙ W .for-marks) (W .for-sides) ex
+      walks-first = walks-on n t near (set ms v 1) ss v f x (W .rowed) (W .near) (A-first inner o) (W .reached) (mark-same ms v v-room) (length-set ms v 1 ∙ W .for-marks) (W .for-sides) ex
 
-      module _ (ms₁ ss₁ : List ℕ) (p : ℕ) (P : Walked n t f x (set ms v 1) ms₁ ss ss₁ p) where
+      module _ {ms₁ ss₁ : List ℕ} {p : ℕ} (P : Walked n t f x (set ms v 1) ms₁ ss ss₁ p) where
         pub walks-second : Walks n t near ms₁ ss₁ g y
-        walks-second = walks-on n t near ms₁ ss₁ v g y (W .rowed) (W .near) A-second (W .reached) (P .visited .spread .more v (mark-same ms v v-room))
+        walks-second = walks-on n t near ms₁ ss₁ v g y (W .rowed) (W .near) (A-second inner o) (W .reached) (P .visited .spread .more v (mark-same ms v v-room))
             (P .visited .spread .len ∙ length-set ms v 1 ∙ W .for-marks) (P .len ∙ W .for-sides) ey
 
-        module _ (ms₂ ss₂ ss₃ : List ℕ) (q s : ℕ) (Q : Walked n t g y ms₁ ms₂ ss₁ ss₂ q) (es : s ≡ bitOr p q) (ed : ss₃ ≡ set ss₂ e (noted n t e v s)) where
+        module _ {ms₂ ss₂ ss₃ : List ℕ} {q s : ℕ} (Q : Walked n t g y ms₁ ms₂ ss₁ ss₂ q) (es : s ≡ bitOr p q) (ed : ss₃ ≡ set ss₂ e (noted n t e v s)) where
           all-marked : (r : ℕ) → r < rows n → touches t r v ≡ true → mark ms₂ (far t r v) ≡ true
-          all-marked = at-inner n t near e v (W .rowed) (W .near) (W .row) (W .touch) inner f g ef eg (λ r. mark ms₂ (far t r v) ≡ true)
+          all-marked = at-inner n t near e v (W .rowed) (W .near) (W .row) (W .touch) inner f g (o .first) (o .second) (λ r. mark ms₂ (far t r v) ≡ true)
               (Q .visited .spread .more (far t e v) (P .visited .spread .more (far t e v) (mark-kept ms v (far t e v) v-room (W .behind))))
               (Q .visited .spread .more (far t f v) (ap (mark ms₁) (sym ex) ∙ P .visited .here))
               (ap (mark ms₂) (sym ey) ∙ Q .visited .here)
 
           module _ (good : Accepted n t) (fresh : Fresh n t e v ms) where
-            A : At n t e v
+            A : EndOf n t e v
             A = at-end good
 
             K : Pair n t e v f g
-            K = two n t near e v f g A (W .near) inner ef eg
+            K = two A (W .near) inner o
 
             still : (u : ℕ) → (u ≡ v → ⊥) → mark ms u ≡ false → mark (set ms v 1) u ≡ false
             still u d a = mark-other ms v u d ∙ a
@@ -231,10 +243,10 @@ module _ (n : ℕ) (t near ms ss : List ℕ) (e v : ℕ) (W : Walks n t near ms 
 
             told-both : Told n t e v ms ms₂ ss ss₃ s
             told-both =
-                let es′ : s ≡ part n t e v % 2 ^ n = es ∙ union n t e v f g x y A inner K ex ey p q (T .taxa) (U .taxa) in
+                let es′ : s ≡ part n t e v % 2 ^ n = es ∙ union A inner K ex ey (T .taxa) (U .taxa) in
                 record {
                   taxa = es′;
-                  filled = filled-two n t e v A f g x y ss ss₁ ss₂ ss₃ inner K ex ey sides-room (T .filled) (U .filled) (ed ∙ ap (set ss₂ e) (noted-side n t e v s A es′));
+                  filled = filled-two A inner K ex ey sides-room (T .filled) (U .filled) (ed ∙ ap (set ss₂ e) (noted-side n t e v s A es′));
                   within = with-v;
                 }
 
@@ -246,7 +258,7 @@ module _ (n : ℕ) (t near ms ss : List ℕ) (e v : ℕ) (W : Walks n t near ms 
           }
 
 -- ---- from taxon 0
-module _ (n : ℕ) (t near ss : List ℕ) (e v : ℕ) (R : Rowed n t) (N : Near n t near) (ls : length ss ≡ rows most) (ee : e ≡ getD near (3 * 0 + 0) 0) (ev : v ≡ far t e 0) where
+module _ {n : ℕ} {t near : List ℕ} {e : ℕ} (R : Rowed n t) (N : Near n t near) (ee : e ≡ getD near (3 * 0 + 0) 0) where
   abbrev none : List ℕ
   none = replicate (nodes most) 0
 
@@ -256,19 +268,23 @@ module _ (n : ℕ) (t near ss : List ℕ) (e v : ℕ) (R : Rowed n t) (N : Near 
   pub zero-row : Across n t 0 e
   zero-row = place-0 n t near 0 R N (omega (arith, R .ordered .big)) e ee
 
-  pub walks-start : Walks n t near (set none 0 1) ss e v
-  walks-start = walks-on n t near (set none 0 1) ss 0 e v R N zero-row (zero-start n t R) (mark-same none 0 zero-room) (length-set none 0 1 ∙ length-replicate {A = ℕ} (nodes most) 0) ls ev
+  module _ {v : ℕ} (ev : v ≡ far t e 0) {ss : List ℕ} where
+    pub walks-start : length ss ≡ rows most → Walks n t near (set none 0 1) ss e v
+    walks-start ls =
+        let lm = length-set none 0 1 ∙ length-replicate {A = ℕ} (nodes most) 0 in
+        walks-on n t near (set none 0 1) ss 0 e v R N zero-row (zero-start n t R) (mark-same none 0 zero-room) lm ls ev
 
-  module _ (ms′ ss′ : List ℕ) (s : ℕ) (P : Walked n t e v (set none 0 1) ms′ ss ss′ s) where
-    pub start-reached : every (mark ms′) (nodes n) ≡ every (fromZero n t) (nodes n)
-    start-reached = marks-reached n t R none ms′ mark-none
-        (visited-of n t 0 none ms′ zero-room (zero-start n t R) (mark-none 0) (P .visited .spread)
-        (all-one n t near 0 R N (omega (arith, R .ordered .big)) (λ r. mark ms′ (far t r 0) ≡ true) e ee (ap (mark ms′) (sym ev) ∙ P .visited .here)))
+    module _ {ms′ ss′ : List ℕ} {s : ℕ} (P : Walked n t e v (set none 0 1) ms′ ss ss′ s) where
+      pub start-reached : every (mark ms′) (nodes n) ≡ every (fromZero n t) (nodes n)
+      start-reached =
+          marks-reached n t R none ms′ mark-none
+          (visited-of n t 0 none ms′ zero-room (zero-start n t R) (mark-none 0) (P .visited .spread)
+          (all-one n t near 0 R N (omega (arith, R .ordered .big)) (λ r. mark ms′ (far t r 0) ≡ true) e ee (ap (mark ms′) (sym ev) ∙ P .visited .here)))
 
-    pub start-sides : Accepted n t → Sides n t ss′
-    start-sides good = all-sides n t near e v good N ee ev ss ss′ ls (P .told good fresh .filled)
-      where
-        fresh : Fresh n t e v (set none 0 1)
-        fresh u lu m =
-            let out : has (part n t e (far t e 0)) 0 ≡ false = hangs n t e 0 (far t e 0) (good .valid) (zero-row .row) (touch-joins t e 0 (zero-row .at)) .out in
-            mark-other none 0 u (λ w. true≢false (sym m ∙ ap₂ (λ (z i : ℕ). has (part n t e z) i) ev w ∙ out)) ∙ mark-none u
+      pub start-sides : length ss ≡ rows most → Accepted n t → Sides n t ss′
+      start-sides ls good = all-sides n t near e v good N ee ev ls (P .told good fresh .filled)
+        where
+          fresh : Fresh n t e v (set none 0 1)
+          fresh u lu m =
+              let out : has (part n t e (far t e 0)) 0 ≡ false = hangs n t e 0 (far t e 0) (good .valid) (zero-row .row) (touch-joins t e 0 (zero-row .at)) .out in
+              mark-other none 0 u (λ w. true≢false (sym m ∙ ap₂ (λ (z i : ℕ). has (part n t e z) i) ev w ∙ out)) ∙ mark-none u

@@ -9,6 +9,7 @@ use Rattle.taxa.specs.Sets.{has}
 use Rattle.tree.specs.Tree.{lo, rows, touches, part}
 use Rattle.tree.specs.Splits.{side}
 use Rattle.tree.specs.Refusals.{Accepted}
+use Rattle.near.specs.Near.{Near}
 
 -- row e of an accepted table has the end v
 pub record At (n : ℕ) (t : List ℕ) (e v : ℕ) : Type 0 where
@@ -30,3 +31,14 @@ pub record Filled (n : ℕ) (t : List ℕ) (e v : ℕ) (s s′ : List ℕ) : Typ
 pub record Sides (n : ℕ) (t : List ℕ) (s : List ℕ) : Type 0 where
   pub room : length s ≡ rows most
   pub right : (r : ℕ) → r < rows n → getD s r 0 ≡ side n t r
+
+-- a tree and its sides
+pub record Sided (n : ℕ) (t s : List ℕ) : Type 0 where
+  pub good : Accepted n t
+  pub sides : Sides n t s
+
+-- the same, with the rows at each node
+pub record Looked (n : ℕ) (t near s : List ℕ) : Type 0 where
+  pub good : Accepted n t
+  pub rows : Near n t near
+  pub sides : Sides n t s

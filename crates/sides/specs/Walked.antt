@@ -2,14 +2,15 @@
 -- may be no tree: the marks tell. Where it is one, the sides are right.
 use Prim.Native.Nat.{ℕ, _^_, _%_, _<_}
 use mathlib.Core.Path.{_≡_}
-use mathlib.Core.Bool.{true, false}
+use mathlib.Core.Bool.{Bool, true, false}
 use mathlib.Core.List.{List}
 use lib.Dec.{eqb}
 use lib.ListN.{length}
 use Rattle.taxa.specs.Most.{most}
 use Rattle.taxa.specs.Sets.{has, less, full, pick}
-use Rattle.tree.specs.Tree.{lo, rows, nodes, touches, far, part, fromZero}
-use Rattle.tree.specs.Refusals.{gives, treeSaid, Accepted}
+use Rattle.tree.specs.Tree.{lo, rows, nodes, touches, far, part, every, fromZero}
+use Rattle.calls.specs.Calls.{gives}
+use Rattle.tree.specs.Refusals.{treeSaid, Accepted}
 use Rattle.table.specs.Rowed.{Rowed}
 use Rattle.table.specs.Says.{checkSays}
 use Rattle.table.specs.declared.Checked.{Checked}
@@ -50,6 +51,12 @@ pub record Walked (n : ℕ) (t : List ℕ) (e v : ℕ) (ms ms′ ss ss′ : List
   pub visited : Visited n t v ms ms′
   pub len : length ss′ ≡ length ss
   pub told : Accepted n t → Fresh n t e v ms → Told n t e v ms ms′ ss ss′ s
+
+-- b tells whether every node can be reached from node 0, and where the table is
+-- a tree s holds its sides
+pub record Reached (n : ℕ) (t : List ℕ) (b : Bool) (s : List ℕ) : Type 0 where
+  pub all : b ≡ every (fromZero n t) (nodes n)
+  pub sides : Accepted n t → Sides n t s
 
 -- the answer is the tree's, and where it is a tree the arrays hold its rows at
 -- each node and its sides

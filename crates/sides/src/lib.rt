@@ -4,16 +4,14 @@ ghost use Prim.Native.Nat.{_+_, _*_, _<_, _≤_};
 ghost use mathlib.Core.Path.{_≡_};
 ghost use lib.ListN.{length, set};
 ghost use Rattle.taxa.specs.Most.{most};
-ghost use Rattle.tree.specs.Tree.{rows, nodes, every, fromZero};
-ghost use Rattle.tree.specs.Refusals.{treeSaid, Accepted};
-ghost use Rattle.table.specs.Says.{checkSays};
-ghost use Rattle.table.specs.Rowed.{Rowed};
+ghost use Rattle.tree.specs.Tree.{rows, nodes, every};
+ghost use Rattle.table.specs.Rowed.{HasRow, Rowed};
 ghost use Rattle.near.specs.Near.{noRows, Near};
-ghost use Rattle.sides.specs.Filled.{Sides};
 ghost use Rattle.sides.specs.Marks.{mark};
-ghost use Rattle.sides.specs.Walked.{noted, Walks, Walked, Found};
+ghost use Rattle.sides.specs.Promises.{Checks};
+ghost use Rattle.sides.specs.Walked.{noted, Walks, Walked, Reached, Found};
+use calls::Refusal;
 use table::Checked;
-use table::Refusal;
 
 // The most rows that a tree has.
 pub const ROWS: usize = 125;
@@ -23,7 +21,7 @@ const NODES: usize = 126;
 
 // Stores the side of row e, s being the taxa with its end v.
 fn note(n: usize, t: &[u8], sides: &mut [u64; ROWS], e: usize, v: usize, s: u64)
-    requires { ⌜ (4 ≤ n) × (n ≤ most) × (2 * e + 1 < length (now t)) × (e < rows most) ⌝ }
+    requires { ⌜ (4 ≤ n) × (n ≤ most) × (HasRow (now t) e) × (e < rows most) ⌝ }
     ensures { λ _. ⌜ now (sides .exit) ≡ set (now (sides .entry)) e (noted n (now (t .entry)) e v s) ⌝ }
 {
     if table::lo(t, e) == v {
@@ -47,7 +45,10 @@ fn walk(
     v: usize,
 ) -> u64
     requires { ⌜ Walks n (now t) (now near) (now marks) (now sides) e v ⌝ }
-    ensures { λ s. ⌜ Walked n (now (t .entry)) e v (now (marks .entry)) (now (marks .exit)) (now (sides .entry)) (now (sides .exit)) s ⌝ }
+    ensures { λ s.
+        let ms = now (marks .exit) in
+        let ss = now (sides .exit) in
+        ⌜ Walked n (now (t .entry)) e v (now (marks .entry)) ms (now (sides .entry)) ss s ⌝ }
 {
     if marks[v] != 0 {
         return 0;
@@ -88,8 +89,9 @@ fn all_marked(n: usize, marks: &[u8; NODES]) -> bool
 // Whether every node can be reached from node 0. Where it can, the side of
 // every row is stored.
 fn all_reached(n: usize, t: &[u8], near: &[u8; near::PLACES], sides: &mut [u64; ROWS]) -> bool
-    requires { ⌜ (Rowed n (now t)) × (Near n (now t) (now near)) × (length (now sides) ≡ rows most) ⌝ }
-    ensures { λ b. ⌜ (b ≡ every (fromZero n (now (t .entry))) (nodes n)) × (Accepted n (now (t .entry)) → Sides n (now (t .entry)) (now (sides .exit))) ⌝ }
+    requires { let t = now t in
+        ⌜ (Rowed n t) × (Near n t (now near)) × (length (now sides) ≡ rows most) ⌝ }
+    ensures { λ b. ⌜ Reached n (now (t .entry)) b (now (sides .exit)) ⌝ }
 {
     let mut marks = [0u8; NODES];
     marks[0] = 1;
@@ -120,7 +122,7 @@ pub fn look(n: usize, t: &[u8], near: &mut [u8; near::PLACES], sides: &mut [u64;
 
 // The check of a tree: refusals 1 to 5.
 pub fn check_tree(n: usize, t: &[u8]) -> Checked
-    ensures { λ r. ⌜ checkSays r ≡ treeSaid n (now (t .entry)) ⌝ }
+    ensures { λ r. ⌜ Checks n (now (t .entry)) r ⌝ }
 {
     let mut near = [near::FREE; near::PLACES];
     let mut sides = [0u64; ROWS];

@@ -17,12 +17,14 @@ use Rattle.taxa.proofs.Bools.{bool-eq}
 use Rattle.taxa.proofs.Sets.{has-below, some-zero, lowest-wide, lowest-lt}
 use Rattle.taxa.proofs.Sizes.{size-wide}
 use Rattle.tree.specs.Tree.{rows, Valid}
-use Rattle.tree.specs.Lists.{insert, lacks, firstLack}
-use Rattle.tree.specs.Splits.{side, meets, flips, split, splitsTo, splitsBy, splits, members, distBy, dist, missing}
-use Rattle.tree.proofs.SplitLaws.{some-meets, meets-some, nothing-split}
+use Rattle.tree.specs.Lists.{insert, lacks, firstLack, Asc}
+use Rattle.tree.specs.Splits.{side, meets, flips, split, splitsTo, splitsBy, splits, members, distBy, missing}
+use Rattle.tree.proofs.SplitLaws.{some-meets, meets-some, nothing-split, splits-asc}
 use Rattle.tree.proofs.Members.{members-count}
 use Rattle.sides.specs.Filled.{Sides}
-use Rattle.splits.specs.Listed.{added, splitsOf, Listed}
+use Rattle.lists.specs.Listed.{Listed}
+use Rattle.splits.specs.Listed.{added, splitsOf, SplitList}
+use Rattle.splits.specs.Promises.{listsApart, treesApart}
 
 -- ---- the list from the sides is the list of the tree
 module _ (n : ℕ) (t : List ℕ) (y : ℕ) (ss : List ℕ) (bound : y < 2 ^ n) (S : Sides n t ss) where
@@ -152,12 +154,9 @@ listed-kept x len out h l = record {
   memory = sym (ap (λ (z : List ℕ). z ++ drop len out) (added-zero x (take len out) h) ∙ take-append-drop len out);
 }
 
-pub listed-put : (x len r : ℕ) (out out′ : List ℕ) → (x ≡ 0 → ⊥) → r ≡ length (insert x (take len out)) → out′ ≡ insert x (take len out) ++ drop r out
+pub listed-put : (x len : ℕ) {r : ℕ} {out out′ : List ℕ} → (x ≡ 0 → ⊥) → Listed (insert x (take len out)) out r out′
     → Listed (added x (take len out)) out r out′
-listed-put x len r out out′ h a b = record {
-  count = a ∙ ap length (sym (added-insert x (take len out) h));
-  memory = b ∙ ap (λ (z : List ℕ). z ++ drop r out) (sym (added-insert x (take len out) h));
-}
+listed-put x len {r} {out} {out′} h = subst (λ (l : List ℕ). Listed l out r out′) (sym (added-insert x (take len out) h))
 
 -- ---- what is written at the start is the list
 pub listed-prefix : (l out out′ : List ℕ) (r : ℕ) → Listed l out r out′ → take r out′ ≡ l
@@ -180,9 +179,16 @@ pub splits-few : (n : ℕ) (t : List ℕ) (y : ℕ) → length (splits n t y) �
 unfolding splitsBy
 splits-few n t y = splits-to-few n t y (rows n)
 
+-- they are listed as a tree's splits are
+pub split-list : (n : ℕ) (t : List ℕ) (y : ℕ) {a : List ℕ} → n ≤ most → a ≡ splits n t y → SplitList a
+split-list n t y few e = record {
+  ascends = subst Asc (sym e) (splits-asc n t y);
+  few = omega (arith, ap length e, splits-few n t y);
+}
+
 -- the comparison of what is written at the start of two lists is that of the
 -- two trees
 pub compared-lists : (n : ℕ) (t u : List ℕ) (y : ℕ) (a b : List ℕ) → a ≡ splits n t y → b ≡ splits n u y
-    → _≡_ {A = ℕ × ℕ} (lacks a b + lacks b a, firstLack a b) (dist n t u y, missing n t u y)
+    → listsApart a b ≡ treesApart n t u y
 unfolding distBy missing
 compared-lists n t u y a b p q = ap₂ (λ (x z : List ℕ). (lacks x z + lacks z x, firstLack x z)) p q

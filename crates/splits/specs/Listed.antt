@@ -1,11 +1,11 @@
--- The list of splits from the sides of the rows, and a list written at the
--- start of a lent one.
-use Prim.Native.Nat.{ℕ, zero, suc}
-use mathlib.Core.Path.{_≡_}
-use mathlib.Core.List.{List, [], _++_}
-use lib.ListN.{length, getD, drop}
+-- The list of splits from the sides of the rows.
+use Prim.Native.Nat.{ℕ, zero, suc, _≤_}
+use mathlib.Core.List.{List, []}
+use lib.ListN.{length, getD}
+use Rattle.taxa.specs.Most.{most}
 use Rattle.taxa.specs.Sets.{pick, some}
-use Rattle.tree.specs.Lists.{insert}
+use Rattle.tree.specs.Tree.{rows}
+use Rattle.tree.specs.Lists.{insert, Asc}
 use Rattle.tree.specs.Splits.{split}
 
 -- the number x put in its place, unless it is 0, which is no split's
@@ -17,8 +17,11 @@ unfoldable pub splitsOf : ℕ → ℕ → List ℕ → ℕ → List ℕ
 splitsOf n y ss zero = []
 splitsOf n y ss (suc k) = added (split n y (getD ss k 0)) (splitsOf n y ss k)
 
--- r is how many numbers l has, and out′ is out with l in place of its first
--- numbers
-pub record Listed (l out : List ℕ) (r : ℕ) (out′ : List ℕ) : Type 0 where
-  pub count : r ≡ length l
-  pub memory : out′ ≡ l ++ drop r out
+-- those of all the rows of a tree of n taxa
+abbrev pub rowSplits : ℕ → ℕ → List ℕ → List ℕ
+rowSplits n y ss = splitsOf n y ss (rows n)
+
+-- a list as a tree's splits are listed: ascending, no longer than its rows
+pub record SplitList (l : List ℕ) : Type 0 where
+  pub ascends : Asc l
+  pub few : length l ≤ rows most

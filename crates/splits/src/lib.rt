@@ -1,19 +1,18 @@
 // The induced splits of a tree over a partition, and the comparison of two
 // trees.
-ghost use Prim.Native.Nat.{_+_, _*_, _-_, _^_, _<_, _≤_};
+ghost use Prim.Native.Nat.{_^_, _<_, _≤_};
 ghost use mathlib.Core.Path.{_≡_};
 ghost use lib.ListN.{length, take};
 ghost use Rattle.taxa.specs.Most.{most};
 ghost use Rattle.taxa.specs.Sets.{lowest};
-ghost use Rattle.tree.specs.Tree.{rows};
-ghost use Rattle.tree.specs.Splits as splits_spec;
-ghost use Rattle.tree.specs.Lists.{lacks, firstLack, Asc};
-ghost use Rattle.tree.specs.Refusals.{Accepted, gives};
-ghost use Rattle.sides.specs.Filled.{Sides};
-ghost use Rattle.splits.specs.Listed.{added, splitsOf, Listed};
-ghost use Rattle.splits.specs.Promises.{Induces, compareSays, comparedSaid};
+ghost use Rattle.tree.specs.Splits as spec;
+ghost use Rattle.calls.specs.Calls.{gives};
+ghost use Rattle.sides.specs.Filled.{Sided};
+ghost use Rattle.lists.specs.Listed.{RoomFor, Listed};
+ghost use Rattle.splits.specs.Listed.{added, rowSplits, SplitList};
+ghost use Rattle.splits.specs.Promises.{listsApart, treesApart, Induces, compareSays, Compares};
+use calls::Refusal;
 use table::Checked;
-use table::Refusal;
 
 // The answer of a call for induced splits: how many numbers were written.
 pub enum Induced {
@@ -31,7 +30,7 @@ pub enum Compared {
 // The number of the split over y that s makes; low is the lowest taxon of y.
 fn number(low: usize, y: u64, s: u64) -> u64
     requires { ⌜ (low ≡ lowest most y) × (low < most) ⌝ }
-    ensures { λ x. ⌜ x ≡ splits_spec.split most y s ⌝ }
+    ensures { λ x. ⌜ x ≡ spec.split most y s ⌝ }
 {
     let inside = s & y;
     let outside = taxa::less(y, s);
@@ -51,8 +50,8 @@ fn number(low: usize, y: u64, s: u64) -> u64
 
 // Puts the number x into the first len of out, unless it is 0; the new count.
 fn add(out: &mut [u64], len: usize, x: u64) -> usize
-    requires { ⌜ (len ≤ length (now out)) × (length (added x (take len (now out))) ≤ length (now out)) ⌝ }
-    ensures { λ r. ⌜ Listed (added x (take len (now (out .entry)))) (now (out .entry)) r (now (out .exit)) ⌝ }
+    requires { let o = now out in ⌜ (len ≤ length o) × (RoomFor (added x (take len o)) o) ⌝ }
+    ensures { λ r. let o = now (out .entry) in ⌜ Listed (added x (take len o)) o r (now (out .exit)) ⌝ }
 {
     if x == 0 {
         return len;
@@ -63,8 +62,8 @@ fn add(out: &mut [u64], len: usize, x: u64) -> usize
 // Lists the splits over y of the rows whose sides are given; how many there
 // are.
 fn list(n: usize, sides: &[u64; sides::ROWS], y: u64, out: &mut [u64]) -> usize
-    requires { ⌜ (4 ≤ n) × (n ≤ most) × (y < 2 ^ n) × (length (splitsOf n y (now sides) (rows n)) ≤ length (now out)) ⌝ }
-    ensures { λ r. ⌜ Listed (splitsOf n y (now (sides .entry)) (rows n)) (now (out .entry)) r (now (out .exit)) ⌝ }
+    requires { ⌜ (4 ≤ n) × (n ≤ most) × (y < 2 ^ n) × (RoomFor (rowSplits n y (now sides)) (now out)) ⌝ }
+    ensures { λ r. ⌜ Listed (rowSplits n y (now (sides .entry))) (now (out .entry)) r (now (out .exit)) ⌝ }
 {
     if y == 0 {
         return 0;
@@ -84,7 +83,7 @@ fn list(n: usize, sides: &[u64; sides::ROWS], y: u64, out: &mut [u64]) -> usize
 // How many induced splits a tree has over a partition of m taxa.
 fn members(m: usize) -> usize
     requires { ⌜ m ≤ most ⌝ }
-    ensures { λ k. ⌜ k ≡ splits_spec.members m ⌝ }
+    ensures { λ k. ⌜ k ≡ spec.members m ⌝ }
 {
     if m < 2 {
         return 0;
@@ -95,8 +94,9 @@ fn members(m: usize) -> usize
 // Lists the induced splits over y of the tree t, whose sides are s; how many
 // there are. The sides are all that is read; t is what the promise speaks of.
 fn tree_splits(n: usize, t: &[u8], s: &[u64; sides::ROWS], y: u64, out: &mut [u64]) -> usize
-    requires { ⌜ (Accepted n (now t)) × (Sides n (now t) (now s)) × (y < 2 ^ n) × (length (splits_spec.splits n (now t) y) ≤ length (now out)) ⌝ }
-    ensures { λ r. ⌜ Listed (splits_spec.splits n (now (t .entry)) y) (now (out .entry)) r (now (out .exit)) ⌝ }
+    requires { let t = now t in
+        ⌜ (Sided n t (now s)) × (y < 2 ^ n) × (RoomFor (spec.splits n t y) (now out)) ⌝ }
+    ensures { λ r. ⌜ Listed (spec.splits n (now (t .entry)) y) (now (out .entry)) r (now (out .exit)) ⌝ }
 {
     list(n, s, y, out)
 }
@@ -104,7 +104,7 @@ fn tree_splits(n: usize, t: &[u8], s: &[u64; sides::ROWS], y: u64, out: &mut [u6
 // The same where the partition names none but the n taxa and the room
 // suffices: refusals 6 and 11.
 fn induced_tree(n: usize, t: &[u8], s: &[u64; sides::ROWS], y: u64, out: &mut [u64]) -> Induced
-    requires { ⌜ (Accepted n (now t)) × (Sides n (now t) (now s)) ⌝ }
+    requires { ⌜ Sided n (now t) (now s) ⌝ }
     ensures { λ r. ⌜ Induces n (now (t .entry)) y (now (out .entry)) r (now (out .exit)) ⌝ }
 {
     if !taxa::within(y, n) {
@@ -133,8 +133,8 @@ pub fn induced_splits(n: usize, t: &[u8], y: u64, out: &mut [u64]) -> Induced
 
 // The comparison of two lists of splits.
 fn compare_lists(a: &[u64], b: &[u64]) -> Compared
-    requires { ⌜ (Asc (now a)) × (Asc (now b)) × (length (now a) ≤ rows most) × (length (now b) ≤ rows most) ⌝ }
-    ensures { λ r. ⌜ compareSays r ≡ gives (lacks (now (a .entry)) (now (b .entry)) + lacks (now (b .entry)) (now (a .entry)), firstLack (now (a .entry)) (now (b .entry))) ⌝ }
+    requires { ⌜ (SplitList (now a)) × (SplitList (now b)) ⌝ }
+    ensures { λ r. ⌜ compareSays r ≡ gives (listsApart (now (a .entry)) (now (b .entry))) ⌝ }
 {
     let lost = lists::count_lacking(a, b);
     let gained = lists::count_lacking(b, a);
@@ -152,8 +152,8 @@ fn compare_trees(
     b: &[u64; sides::ROWS],
     y: u64,
 ) -> Compared
-    requires { ⌜ (Accepted n (now t)) × (Sides n (now t) (now a)) × (Accepted n (now u)) × (Sides n (now u) (now b)) × (y < 2 ^ n) ⌝ }
-    ensures { λ r. ⌜ compareSays r ≡ gives (splits_spec.dist n (now (t .entry)) (now (u .entry)) y, splits_spec.missing n (now (t .entry)) (now (u .entry)) y) ⌝ }
+    requires { ⌜ (Sided n (now t) (now a)) × (Sided n (now u) (now b)) × (y < 2 ^ n) ⌝ }
+    ensures { λ r. ⌜ compareSays r ≡ gives (treesApart n (now (t .entry)) (now (u .entry)) y) ⌝ }
 {
     let mut first = [0u64; sides::ROWS];
     let mut second = [0u64; sides::ROWS];
@@ -164,8 +164,8 @@ fn compare_trees(
 
 // The same where the first tree is one: refusals 2 to 5 of the second, and 6.
 fn compare_second(n: usize, t: &[u8], a: &[u64; sides::ROWS], u: &[u8], y: u64) -> Compared
-    requires { ⌜ (Accepted n (now t)) × (Sides n (now t) (now a)) ⌝ }
-    ensures { λ r. ⌜ compareSays r ≡ comparedSaid n (now (t .entry)) (now (u .entry)) y ⌝ }
+    requires { ⌜ Sided n (now t) (now a) ⌝ }
+    ensures { λ r. ⌜ Compares n (now (t .entry)) (now (u .entry)) y r ⌝ }
 {
     let mut near = [near::FREE; near::PLACES];
     let mut b = [0u64; sides::ROWS];
@@ -184,7 +184,7 @@ fn compare_second(n: usize, t: &[u8], a: &[u64; sides::ROWS], u: &[u8], y: u64) 
 // The comparison of two trees over y: refusals 1, 2 to 5 of the first, 2 to 5
 // of the second, and 6.
 pub fn compare(n: usize, t: &[u8], u: &[u8], y: u64) -> Compared
-    ensures { λ r. ⌜ compareSays r ≡ comparedSaid n (now (t .entry)) (now (u .entry)) y ⌝ }
+    ensures { λ r. ⌜ Compares n (now (t .entry)) (now (u .entry)) y r ⌝ }
 {
     let mut near = [near::FREE; near::PLACES];
     let mut s = [0u64; sides::ROWS];

@@ -65,7 +65,7 @@ fn tell(answer: Stepped) {
         Stepped::Ended => line(b"ended"),
         Stepped::Refused { why, place } => {
             put(b"refused ");
-            say(table::number(why) as u64);
+            say(calls::number(why) as u64);
             put(b"at ");
             number(place as u64);
             line(b"");

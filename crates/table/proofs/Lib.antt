@@ -1,5 +1,5 @@
 pub mod Tallies
 pub mod Stages
-pub mod Numbers
+pub mod OneCheck
 pub mod Gathers
 pub mod Pairs

@@ -1,6 +1,6 @@
 -- What is known of a table when some of the checks have passed, and what the
 -- counts of rows hold.
-use Prim.Native.Nat.{ℕ, _*_, _≤_, _<_}
+use Prim.Native.Nat.{ℕ, _+_, _*_, _≤_, _<_}
 use mathlib.Core.Path.{_≡_}
 use mathlib.Core.Bool.{Bool, _||_}
 use mathlib.Core.List.{List}
@@ -8,6 +8,10 @@ use lib.Dec.{eqb, ltb}
 use lib.ListN.{length, getD}
 use Rattle.taxa.specs.Most.{most}
 use Rattle.tree.specs.Tree.{lo, hi, rows, nodes, touches, count, degree}
+
+-- The table has row r.
+abbrev pub HasRow : List ℕ → ℕ → Type 0
+HasRow t r = 2 * r + 1 < length t
 
 -- The checks 1 to 3 pass.
 pub record Ordered (n : ℕ) (t : List ℕ) : Type 0 where

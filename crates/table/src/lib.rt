@@ -7,54 +7,12 @@ ghost use lib.ListN.{length, getD};
 ghost use Rattle.taxa.specs.Most.{most};
 ghost use Rattle.tree.specs.Tree as tree_spec;
 ghost use Rattle.tree.specs.Tree.{rows, nodes, inOrder, every};
-ghost use Rattle.tree.specs.Refusals.{rowSaid};
-ghost use Rattle.table.specs.Says.{numberOf, checkSays};
-ghost use Rattle.table.specs.Rowed.{Ordered, Counted, hasFrom};
+ghost use Rattle.table.specs.Says.{checkSays, rowSaid};
+ghost use Rattle.table.specs.Rowed.{HasRow, Ordered, Counted, hasFrom};
+use calls::Refusal;
 
 // The most nodes that a tree has.
 const NODES: usize = 126;
-
-// What a call is refused for, in the order of the documents' numbers.
-pub enum Refusal {
-    Count,
-    Length,
-    Ends,
-    Degree,
-    Unreached,
-    Partition,
-    Kind,
-    Row,
-    Misfit,
-    Idle,
-    Room,
-    Field,
-    Long,
-    Text,
-    Unseen,
-}
-
-// The documents' number of a refusal.
-pub fn number(r: Refusal) -> u8
-    ensures { λ k. ⌜ k ≡ numberOf r ⌝ }
-{
-    match r {
-        Refusal::Count => 1,
-        Refusal::Length => 2,
-        Refusal::Ends => 3,
-        Refusal::Degree => 4,
-        Refusal::Unreached => 5,
-        Refusal::Partition => 6,
-        Refusal::Kind => 7,
-        Refusal::Row => 8,
-        Refusal::Misfit => 9,
-        Refusal::Idle => 10,
-        Refusal::Room => 11,
-        Refusal::Field => 12,
-        Refusal::Long => 13,
-        Refusal::Text => 14,
-        Refusal::Unseen => 16,
-    }
-}
 
 // What a check of a table says.
 pub enum Checked {
@@ -64,7 +22,7 @@ pub enum Checked {
 
 // The first end of row r.
 pub fn lo(t: &[u8], r: usize) -> usize
-    requires { ⌜ 2 * r + 1 < length (now t) ⌝ }
+    requires { ⌜ HasRow (now t) r ⌝ }
     ensures { λ v. ⌜ v ≡ tree_spec.lo (now (t .entry)) r ⌝ }
 {
     t[2 * r] as usize
@@ -72,7 +30,7 @@ pub fn lo(t: &[u8], r: usize) -> usize
 
 // The second end of row r.
 pub fn hi(t: &[u8], r: usize) -> usize
-    requires { ⌜ 2 * r + 1 < length (now t) ⌝ }
+    requires { ⌜ HasRow (now t) r ⌝ }
     ensures { λ v. ⌜ v ≡ tree_spec.hi (now (t .entry)) r ⌝ }
 {
     t[2 * r + 1] as usize
@@ -80,7 +38,7 @@ pub fn hi(t: &[u8], r: usize) -> usize
 
 // The end of row r that is not v.
 pub fn far(t: &[u8], r: usize, v: usize) -> usize
-    requires { ⌜ 2 * r + 1 < length (now t) ⌝ }
+    requires { ⌜ HasRow (now t) r ⌝ }
     ensures { λ w. ⌜ w ≡ tree_spec.far (now (t .entry)) r v ⌝ }
 {
     let a = lo(t, r);
@@ -92,7 +50,7 @@ pub fn far(t: &[u8], r: usize, v: usize) -> usize
 
 // Whether row r is at node v.
 pub fn touches(t: &[u8], r: usize, v: usize) -> bool
-    requires { ⌜ 2 * r + 1 < length (now t) ⌝ }
+    requires { ⌜ HasRow (now t) r ⌝ }
     ensures { λ b. ⌜ b ≡ tree_spec.touches (now (t .entry)) r v ⌝ }
 {
     if lo(t, r) == v {

@@ -7,12 +7,13 @@ use native.Mathlib.Omega.{arith}
 use lib.ListN.{length, take, drop, length-append, length-drop, drop-of-length-le}
 use lib.Seq.{take-at, drop-at, drop-drop, length-take-le, take-all}
 use borrow.Author.Tests.{eq-eqb, ne-eqb}
-use Rattle.text.specs.Lines.{decimal, noneWord, fullWord, ptWord, bin, blank, feed, sameWord, changedWord, savedWord, endWord, refusedWord, atWord, className, verdictLine, savedLine, endLine, refusedLine, putFirst, placed}
+use Rattle.calls.specs.Calls.{atStart}
+use Rattle.text.specs.Lines.{decimal, noneWord, fullWord, ptWord, bin, blank, feed, sameWord, changedWord, savedWord, endWord, refusedWord, atWord, className, verdictLine, savedLine, endLine, refusedLine, placed}
 use Rattle.text.proofs.Widths.{class-none, class-full, class-part}
 
 -- a part from at on, that came back with ds at its start
 pub part-back : (o : List ℕ) (at : ℕ) (ds : List ℕ) → at ≤ length o
-    → take at o ++ (putFirst ds (take (length o - at) (drop at o)) ++ drop (length o - at) (drop at o)) ≡ placed o at ds
+    → take at o ++ (atStart ds (take (length o - at) (drop at o)) ++ drop (length o - at) (drop at o)) ≡ placed o at ds
 part-back o at ds h =
     let whole : take (length o - at) (drop at o) ≡ drop at o = take-all (length o - at) (drop at o) (omega (arith, length-drop at o)) in
     let none : drop (length o - at) (drop at o) ≡ [] = drop-of-length-le (drop at o) {i = length o - at} (omega (arith, length-drop at o)) in
@@ -34,7 +35,7 @@ placed-placed o at ds es h =
     ∙ ap (λ (k : ℕ). drop k o) q in
     rw (f, g) (simp append-assoc)
 
-pub placed-start : (o ds : List ℕ) → placed o 0 ds ≡ putFirst ds o
+pub placed-start : (o ds : List ℕ) → placed o 0 ds ≡ atStart ds o
 placed-start o ds = rw (zero-add (length ds))
 
 -- the same length
@@ -42,16 +43,16 @@ pub placed-length : (o : List ℕ) (at : ℕ) (ds : List ℕ) → at + length ds
 placed-length o at ds h = rw (length-append, length-append, length-drop, length-take-le at o (omega arith)) (omega arith)
 
 -- ---- what a call leaves
-pub copied : (src ds o : List ℕ) {out : List ℕ} {r : ℕ} → src ≡ ds → r ≡ length src → out ≡ take (length src) src ++ drop (length src) o → (r ≡ length ds) × (out ≡ putFirst ds o)
+pub copied : (src ds o : List ℕ) {out : List ℕ} {r : ℕ} → src ≡ ds → r ≡ length src → out ≡ take (length src) src ++ drop (length src) o → (r ≡ length ds) × (out ≡ atStart ds o)
 copied src ds o e n h = rw (← e) (n, h ∙ ap (λ (l : List ℕ). l ++ drop (length src) o) (take-all (length src) src (omega arith)))
 
-pub back : (o : List ℕ) (at : ℕ) (ds : List ℕ) {part : List ℕ} {k : ℕ} → at + length ds ≤ length o → (k ≡ length ds) × (part ≡ putFirst ds (take (length o - at) (drop at o)))
+pub back : (o : List ℕ) (at : ℕ) (ds : List ℕ) {part : List ℕ} {k : ℕ} → at + length ds ≤ length o → (k ≡ length ds) × (part ≡ atStart ds (take (length o - at) (drop at o)))
     → (at + k ≡ at + length ds) × (take at o ++ (part ++ drop (length o - at) (drop at o)) ≡ placed o at ds)
 back o at ds h w = (rw (w .0), rw (w .1) (part-back o at ds (omega arith)))
 
 -- ---- one piece after another
 abbrev pub First : List ℕ → List ℕ → ℕ → List ℕ → Type 0
-First o ds r out = (r ≡ length ds) × (out ≡ putFirst ds o)
+First o ds r out = (r ≡ length ds) × (out ≡ atStart ds o)
 
 abbrev pub Then : ℕ → List ℕ → List ℕ → ℕ → List ℕ → Type 0
 Then at o ds r out = (r ≡ at + length ds) × (out ≡ placed o at ds)
@@ -66,7 +67,7 @@ starts o ds t = (t .0 ∙ zero-add (length ds), t .1 ∙ placed-start o ds)
 follows : (o ds es : List ℕ) (a b : ℕ) {p q : List ℕ} → length (ds ++ es) ≤ length o → First o ds a p → Then a p es b q → First o (ds ++ es) b q
 follows o ds es a b room f t =
     let n : length (ds ++ es) ≡ length ds + length es = length-append ds es in
-    let e : placed o 0 ds ≡ putFirst ds o = placed-start o ds in
+    let e : placed o 0 ds ≡ atStart ds o = placed-start o ds in
     let z : 0 + length ds ≡ length ds = zero-add (length ds) in
     let twice : placed (placed o 0 ds) (0 + length ds) es ≡ placed o 0 (ds ++ es) = placed-placed o 0 ds es (omega (arith, room, n)) in
     (t .0 ∙ omega (arith, f .0, n), t .1 ∙ ap₂ (λ (l : List ℕ) (k : ℕ). placed l k es) (f .1 ∙ sym e) (f .0 ∙ sym z) ∙ twice ∙ placed-start o (ds ++ es))

@@ -4,7 +4,8 @@ ghost use Prim.Native.Nat.{_+_, _≤_};
 ghost use mathlib.Core.Path.{_≡_};
 ghost use lib.ListN.{length};
 ghost use Rattle.taxa.specs.Most.{mostPartitions};
-ghost use Rattle.text.specs.Lines.{decimal, bin, className, verdictLine, savedLine, endLine, refusedLine, putFirst, placed};
+ghost use Rattle.text.specs.Lines.{decimal, bin, className, Wrote, WroteAt};
+ghost use Rattle.text.specs.Lines.{verdictLine, savedLine, endLine, refusedLine};
 
 // How many digits n has.
 pub fn width(n: u64) -> usize
@@ -19,7 +20,7 @@ pub fn width(n: u64) -> usize
 // Writes n in decimal; how many bytes.
 pub fn number(n: u64, out: &mut [u8]) -> usize
     requires { ⌜ length (decimal n) ≤ length (now out) ⌝ }
-    ensures { λ r. ⌜ (r ≡ length (decimal n)) × (now (out .exit) ≡ putFirst (decimal n) (now (out .entry))) ⌝ }
+    ensures { λ r. ⌜ Wrote (decimal n) (now (out .entry)) r (now (out .exit)) ⌝ }
 {
     let mut digits = [0u8; 20];
     let k = io::decimal(n, &mut digits);
@@ -29,7 +30,7 @@ pub fn number(n: u64, out: &mut [u8]) -> usize
 // Writes n in decimal from place at on; where it ends.
 fn then_number(n: u64, out: &mut [u8], at: usize) -> usize
     requires { ⌜ at + length (decimal n) ≤ length (now out) ⌝ }
-    ensures { λ r. ⌜ (r ≡ at + length (decimal n)) × (now (out .exit) ≡ placed (now (out .entry)) at (decimal n)) ⌝ }
+    ensures { λ r. ⌜ WroteAt (decimal n) at (now (out .entry)) r (now (out .exit)) ⌝ }
 {
     let k = number(n, &mut out[at..]);
     at + k
@@ -38,7 +39,7 @@ fn then_number(n: u64, out: &mut [u8], at: usize) -> usize
 // Writes the bytes of w from place at on; where they end.
 fn then_word(w: &[u8], out: &mut [u8], at: usize) -> usize
     requires { ⌜ at + length (now w) ≤ length (now out) ⌝ }
-    ensures { λ r. ⌜ (r ≡ at + length (now (w .entry))) × (now (out .exit) ≡ placed (now (out .entry)) at (now (w .entry))) ⌝ }
+    ensures { λ r. ⌜ WroteAt (now (w .entry)) at (now (out .entry)) r (now (out .exit)) ⌝ }
 {
     let k = bytes::copy(w, &mut out[at..]);
     at + k
@@ -62,8 +63,9 @@ fn class_bin(s: u64, k: u64) -> u64
 // Writes the terrace class of s of k partitions from place at on; where it
 // ends.
 fn then_class(s: u64, k: u64, out: &mut [u8], at: usize) -> usize
-    requires { ⌜ (s ≤ mostPartitions) × (k ≤ mostPartitions) × (at + length (className s k) ≤ length (now out)) ⌝ }
-    ensures { λ r. ⌜ (r ≡ at + length (className s k)) × (now (out .exit) ≡ placed (now (out .entry)) at (className s k)) ⌝ }
+    requires { ⌜ (s ≤ mostPartitions) × (k ≤ mostPartitions)
+        × (at + length (className s k) ≤ length (now out)) ⌝ }
+    ensures { λ r. ⌜ WroteAt (className s k) at (now (out .entry)) r (now (out .exit)) ⌝ }
 {
     if s == 0 {
         return then_word(b"none", out, at);
@@ -80,7 +82,7 @@ fn then_class(s: u64, k: u64, out: &mut [u8], at: usize) -> usize
 // how many bytes.
 pub fn verdict_line(m: u64, p: u64, d: u64, out: &mut [u8]) -> usize
     requires { ⌜ length (verdictLine m p d) ≤ length (now out) ⌝ }
-    ensures { λ r. ⌜ (r ≡ length (verdictLine m p d)) × (now (out .exit) ≡ putFirst (verdictLine m p d) (now (out .entry))) ⌝ }
+    ensures { λ r. ⌜ Wrote (verdictLine m p d) (now (out .entry)) r (now (out .exit)) ⌝ }
 {
     let a = number(m, out);
     let b = then_word(b" ", out, a);
@@ -96,8 +98,9 @@ pub fn verdict_line(m: u64, p: u64, d: u64, out: &mut [u8]) -> usize
 // Writes the line of a move: `m saved s t`, t being the class of same of k
 // partitions; how many bytes.
 pub fn saved_line(m: u64, s: u64, same: u64, k: u64, out: &mut [u8]) -> usize
-    requires { ⌜ (same ≤ mostPartitions) × (k ≤ mostPartitions) × (length (savedLine m s same k) ≤ length (now out)) ⌝ }
-    ensures { λ r. ⌜ (r ≡ length (savedLine m s same k)) × (now (out .exit) ≡ putFirst (savedLine m s same k) (now (out .entry))) ⌝ }
+    requires { ⌜ (same ≤ mostPartitions) × (k ≤ mostPartitions)
+        × (length (savedLine m s same k) ≤ length (now out)) ⌝ }
+    ensures { λ r. ⌜ Wrote (savedLine m s same k) (now (out .entry)) r (now (out .exit)) ⌝ }
 {
     let a = number(m, out);
     let b = then_word(b" saved ", out, a);
@@ -110,7 +113,7 @@ pub fn saved_line(m: u64, s: u64, same: u64, k: u64, out: &mut [u8]) -> usize
 // Writes the last line: `end m`; how many bytes.
 pub fn end_line(m: u64, out: &mut [u8]) -> usize
     requires { ⌜ length (endLine m) ≤ length (now out) ⌝ }
-    ensures { λ r. ⌜ (r ≡ length (endLine m)) × (now (out .exit) ≡ putFirst (endLine m) (now (out .entry))) ⌝ }
+    ensures { λ r. ⌜ Wrote (endLine m) (now (out .entry)) r (now (out .exit)) ⌝ }
 {
     let a = then_word(b"end ", out, 0);
     let b = then_number(m, out, a);
@@ -120,7 +123,7 @@ pub fn end_line(m: u64, out: &mut [u8]) -> usize
 // Writes the line of a refusal: `refused r at p`; how many bytes.
 pub fn refused_line(r: u64, p: u64, out: &mut [u8]) -> usize
     requires { ⌜ length (refusedLine r p) ≤ length (now out) ⌝ }
-    ensures { λ k. ⌜ (k ≡ length (refusedLine r p)) × (now (out .exit) ≡ putFirst (refusedLine r p) (now (out .entry))) ⌝ }
+    ensures { λ k. ⌜ Wrote (refusedLine r p) (now (out .entry)) k (now (out .exit)) ⌝ }
 {
     let a = then_word(b"refused ", out, 0);
     let b = then_number(r, out, a);

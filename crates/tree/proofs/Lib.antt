@@ -10,6 +10,7 @@ pub mod Monotone
 pub mod RowCounts
 pub mod RowsAt
 pub mod Forks
+pub mod Ends
 pub mod RefusalLaws
 pub mod Seen
 pub mod ListCounts
@@ -17,3 +18,4 @@ pub mod Growth
 pub mod DoubleLift
 pub mod Members
 pub mod FewTaxa
+pub mod EditionLaws

@@ -7,8 +7,9 @@ use Prim.Native.Nat.{ℕ, _<_}
 use Rattle.taxa.specs.Sets.{has, inSome, Sub}
 use Rattle.taxa.proofs.Bools.{or-left, or-right, or-cases}
 use Rattle.tree.specs.Splits.{Gains}
-use Rattle.tree.specs.Refusals.{Check, gives, judged, treeChecks, allSeen, partitionsChecks}
-use Rattle.tree.proofs.RefusalLaws.{gives-pass, pass-after}
+use Rattle.calls.specs.Calls.{Check, gives, judged}
+use Rattle.tree.specs.Refusals.{treeChecks, allSeen, partitionsChecks}
+use Rattle.calls.proofs.CheckLaws.{gives-pass, pass-after}
 use Rattle.tree.proofs.RowCounts.{every-all, all-every}
 
 -- Each taxon is in some partition of such a list.

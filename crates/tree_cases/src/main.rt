@@ -20,7 +20,7 @@ fn check(n: usize, t: &[u8], words: &[u8]) {
     let c = sides::check_tree(n, t);
     match c {
         Checked::Tree => say(0),
-        Checked::Refused(r) => say(table::number(r) as u64),
+        Checked::Refused(r) => say(calls::number(r) as u64),
     }
     line(words);
 }
@@ -34,7 +34,7 @@ fn count(n: usize, t: &[u8], y: u64, out: &mut [u64], words: &[u8]) {
             put(b"splits ");
         }
         Induced::Refused(r) => {
-            say(table::number(r) as u64);
+            say(calls::number(r) as u64);
             put(b"refused ");
         }
     }
@@ -66,7 +66,7 @@ fn compare(n: usize, t: &[u8], u: &[u8], y: u64, words: &[u8]) {
             say(x);
         }
         Compared::Refused(r) => {
-            say(table::number(r) as u64);
+            say(calls::number(r) as u64);
             put(b"refused ");
         }
     }

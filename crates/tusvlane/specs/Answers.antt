@@ -1,51 +1,53 @@
--- What is said of a call, as the C header's numbers: a refusal's number, or 0
--- and the answer.
+-- How the C header's structs read what is told of a call: a refusal's number
+-- or 0, the place, and the numbers of the answer, which are 0 where there is
+-- none.
 use Prim.Native.Nat.{ℕ}
-use Rattle.tree.specs.Refusals.{Said, gives, refuses}
-use Rattle.job.specs.Steps.{Told, told, ended, stopped}
+use Rattle.calls.specs.Calls.{Said, codeOf, placeOf, givenOr, valueOf}
+use Rattle.job.specs.Steps.{Told, told, ended}
 use Rattle.job.specs.Runs.{first}
-use Rattle.reader.specs.Promises as reader
-use Rattle.reader.specs.Promises.{Heard, refusesAt}
+use Rattle.job.specs.declared.State.{State}
 use Rattle.tusvlane.specs.declared.Answer.{Answer}
 use Rattle.tusvlane.specs.declared.Comparison.{Comparison}
 use Rattle.tusvlane.specs.declared.Placed.{Placed}
 use Rattle.tusvlane.specs.declared.StepAnswer.{StepAnswer}
 
--- A refusal, or 0.
-abbrev pub codeOf : Said (Unit {0}) → ℕ
-codeOf (gives u) = 0
-codeOf (refuses k) = k
-
--- A refusal, or 0 and the number that the call gives.
+-- A refusal or 0, and one number.
 abbrev pub answerOf : Said ℕ → Answer
-answerOf (gives k) = record { refusal = 0; value = k }
-answerOf (refuses k) = record { refusal = k; value = 0 }
+answerOf s = record { refusal = codeOf s; value = valueOf (λ k. k) s }
 
--- A refusal, or 0 with the distance and the missing split.
+-- A refusal or 0, the distance and the missing split.
 abbrev pub comparisonOf : Said (ℕ × ℕ) → Comparison
-comparisonOf (gives w) =
-    record { refusal = 0; distance = w .0; missing = w .1 }
-comparisonOf (refuses k) = record { refusal = k; distance = 0; missing = 0 }
-
--- A refusal with its place where it has one, or 0. All else is 0.
-abbrev pub placedOf : Heard (Unit {0}) → Placed
-placedOf (reader.gives u) = record { refusal = 0; place = 0 }
-placedOf (reader.refuses k) = record { refusal = k; place = 0 }
-placedOf (refusesAt k p) = record { refusal = k; place = p }
-
--- The next state and how many bytes of lines; or that the job is over; or a
--- refusal and its place. All else is 0.
-abbrev pub stepAnswerOf : Told → StepAnswer
-stepAnswerOf (told at taxa parts moves wrote) =
+comparisonOf s =
     record {
-      refusal =
-          0;
-      ended = 0;
-      place = 0;
-      wrote = wrote;
-      next = record { at = at; taxa = taxa; parts = parts; moves = moves };
+      refusal = codeOf s;
+      distance = valueOf (λ w. w .0) s;
+      missing = valueOf (λ w. w .1) s;
     }
-stepAnswerOf ended =
-    record { refusal = 0; ended = 1; place = 0; wrote = 0; next = first }
-stepAnswerOf (stopped k p) =
-    record { refusal = k; ended = 0; place = p; wrote = 0; next = first }
+
+-- A refusal or 0, and its place.
+abbrev pub placedOf : {A : Type 0} → Said A → Placed
+placedOf s = record { refusal = codeOf s; place = placeOf s }
+
+-- Of what a step tells: 1 where the job is over; how many bytes of lines; and
+-- the next state, which is the first where there is none.
+abbrev pub isEnd : Told → ℕ
+isEnd (told t w) = 0
+isEnd ended = 1
+
+abbrev pub wroteOf : Told → ℕ
+wroteOf (told t w) = w
+wroteOf ended = 0
+
+abbrev pub nextOf : Told → State
+nextOf (told t w) = t
+nextOf ended = first
+
+abbrev pub stepAnswerOf : Said Told → StepAnswer
+stepAnswerOf s =
+    record {
+      refusal = codeOf s;
+      ended = valueOf isEnd s;
+      place = placeOf s;
+      wrote = valueOf wroteOf s;
+      next = givenOr first nextOf s;
+    }

@@ -1,62 +1,71 @@
--- What the C functions that write promise, for every input: the answer, and
--- the state of what was lent.
+-- What the C functions promise, for every input: each says what the call of
+-- the same name says, in the numbers of its C struct, and leaves what was lent
+-- as that call does.
 use Prim.Native.Nat.{ℕ}
-use mathlib.Core.Path.{_≡_}
 use mathlib.Core.List.{List}
 use lib.ListN.{length}
-use Rattle.tree.specs.Refusals.{written}
-use Rattle.moves.specs.Moves.{Move, moved}
-use Rattle.moves.specs.Verdicts.{movedSaid, judgedSaid}
-use Rattle.splits.specs.Promises.{inducedSaid, howMany}
-use Rattle.judge.specs.Promises.{done, tableAfter, howManySame}
-use Rattle.listing.specs.Listing as listing
-use Rattle.listing.specs.Listing.{linesSaid, placeAfter}
-use Rattle.reader.specs.Promises.{Heard, Reads, told, planted}
-use Rattle.job.specs.Steps.{Lent, stepped, toldOf, lentThen}
+use Rattle.calls.specs.Calls.{Call, CallBy, Answers, tells, done, codeOf, instead, atStart}
+use Rattle.tree.specs.Refusals.{treeSaid}
+use Rattle.moves.specs.Moves.{Move}
+use Rattle.moves.specs.Verdicts.{movedSaid, judgedSaid, judgedOneSaid}
+use Rattle.splits.specs.Promises.{inducedSaid, comparedSaid}
+use Rattle.rules.specs.Each.{zeros}
+use Rattle.listing.specs.Listing.{linesSaid, Page, placeAfter, movedWith}
+use Rattle.reader.specs.Promises.{Reads}
+use Rattle.job.specs.Steps.{Lent, stepped, toldOf, lentBy}
 use Rattle.job.specs.declared.State.{State}
 use Rattle.tusvlane.specs.declared.Answer.{Answer}
+use Rattle.tusvlane.specs.declared.Comparison.{Comparison}
 use Rattle.tusvlane.specs.declared.Placed.{Placed}
 use Rattle.tusvlane.specs.declared.StepAnswer.{StepAnswer}
-use Rattle.tusvlane.specs.Answers.{codeOf, answerOf, placedOf}
+use Rattle.tusvlane.specs.Answers.{answerOf, comparisonOf, placedOf}
 use Rattle.tusvlane.specs.Answers.{stepAnswerOf}
+
+-- tusvlane_check_tree: 0, or a refusal.
+abbrev pub Checks : ℕ → List ℕ → ℕ → Type 0
+Checks n t r = Answers codeOf (treeSaid n t) r
 
 -- tusvlane_induced_splits: how many splits there are, and the list of them at
 -- the start of the output.
-pub record Induces (n : ℕ) (t : List ℕ) (y : ℕ) (out : List ℕ) (r : Answer) (out′ : List ℕ) : Type 0 where
-  pub says : r ≡ answerOf (howMany (inducedSaid n t y (length out)))
-  pub memory : out′ ≡ written (inducedSaid n t y (length out)) out
+abbrev pub Induces : ℕ → List ℕ → ℕ → List ℕ → Answer → List ℕ → Type 0
+Induces n t y out r out′ =
+    Call (λ s. answerOf (tells length s)) atStart (inducedSaid n t y (length out)) out r out′
 
--- tusvlane_apply_move: 0 and the moved table, or a refusal and the table as it
--- was.
-pub record Applies (n : ℕ) (t : List ℕ) (m : Move) (r : ℕ) (t′ : List ℕ) : Type 0 where
-  pub says : r ≡ codeOf (done (movedSaid n t m))
-  pub memory : t′ ≡ tableAfter (movedSaid n t m) t
+-- tusvlane_compare: the distance and the missing split.
+abbrev pub Compares : ℕ → List ℕ → List ℕ → ℕ → Comparison → Type 0
+Compares n t u y r = Answers comparisonOf (comparedSaid n t u y) r
+
+-- tusvlane_apply_move: 0 and the moved table in place of the lent one, or a
+-- refusal.
+abbrev pub Applies : ℕ → List ℕ → Move → ℕ → List ℕ → Type 0
+Applies n t m r t′ =
+    Call (λ s. codeOf (tells done s)) instead (movedSaid n t m) t r t′
 
 -- tusvlane_judge_move: how many distances are 0, and the distances at the
 -- start of the output.
-pub record Judges (n : ℕ) (t ys : List ℕ) (m : Move) (out : List ℕ) (r : Answer) (out′ : List ℕ) : Type 0 where
-  pub says : r ≡ answerOf (howManySame (judgedSaid n t ys m (length out)))
-  pub memory : out′ ≡ written (judgedSaid n t ys m (length out)) out
+abbrev pub Judges : ℕ → List ℕ → List ℕ → Move → List ℕ → Answer → List ℕ
+    → Type 0
+Judges n t ys m out r out′ =
+    Call (λ s. answerOf (tells zeros s)) atStart (judgedSaid n t ys m (length out)) out r out′
+
+-- tusvlane_judge_one: the distance.
+abbrev pub JudgesOne : ℕ → List ℕ → ℕ → Move → Answer → Type 0
+JudgesOne n t y m r = Answers answerOf (judgedOneSaid n t y m) r
 
 -- tusvlane_list_move: the place after the lines, the moved table, and the
 -- lines in the output from the place on.
-pub record Lists (n : ℕ) (t ys : List ℕ) (m : Move) (k : ℕ) (out : List ℕ) (place : ℕ) (r : Answer) (t′ out′ : List ℕ) : Type 0 where
-  pub says :
-      r ≡ answerOf (placeAfter place (linesSaid n t ys m k (length out) place))
-  pub table : t′ ≡ listing.tableThen (linesSaid n t ys m k (length out) place)
-      (moved n t m) t
-  pub memory :
-      out′ ≡ listing.outThen (linesSaid n t ys m k (length out) place) place out
+abbrev pub Lists : ℕ → List ℕ → Move → ℕ → ℕ → Page → Answer → Page → Type 0
+Lists n ys m k place p r p′ =
+    let said = linesSaid n (p .table) ys m k (length (p .out)) place in
+    Call (λ s. answerOf (tells (placeAfter place) s)) (movedWith n m place) said p r p′
 
 -- tusvlane_read_newick: 0 and the tree's table at the start of the output, or
 -- a refusal, with its place where the text is no tree.
-pub record Plants (n : ℕ) (s out : List ℕ) (r : Placed) (out′ : List ℕ) : Type 0 where
-  pub heard : Heard (List ℕ)
-  pub by : Reads n s (length out) heard
-  pub says : r ≡ placedOf (told heard)
-  pub memory : out′ ≡ planted heard out
+abbrev pub Plants : ℕ → List ℕ → List ℕ → Placed → List ℕ → Type 0
+Plants n s out r out′ =
+    CallBy (Reads n s (length out)) (λ x. placedOf (tells done x)) atStart out r out′
 
 -- tusvlane_step: what is told of the outcome, and the lent memory after it.
-pub record Steps (job : List ℕ) (s : State) (m : Lent) (r : StepAnswer) (m′ : Lent) : Type 0 where
-  pub says : r ≡ stepAnswerOf (toldOf (stepped job s m))
-  pub memory : m′ ≡ lentThen (stepped job s m) m
+abbrev pub Steps : List ℕ → State → Lent → StepAnswer → Lent → Type 0
+Steps job s m r m′ =
+    Call (λ o. stepAnswerOf (tells toldOf o)) lentBy (stepped job s m) m r m′

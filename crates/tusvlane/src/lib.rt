@@ -1,16 +1,15 @@
 // The library's calls under their C names: include/tusvlane.h declares them.
 // Each gives what the call beneath gives, with the refusal as its number.
 ghost use mathlib.Core.Path.{_≡_};
-ghost use lib.ListN.{length};
-ghost use Rattle.tree.specs.Refusals.{refuses, treeSaid};
-ghost use Rattle.table.specs.Says.{numberOf};
-ghost use Rattle.moves.specs.Verdicts.{judgedOneSaid};
-ghost use Rattle.splits.specs.Promises.{comparedSaid};
-ghost use Rattle.fits.specs.Bytes.{moveOf};
+ghost use Rattle.calls.specs.Calls.{refuses};
+ghost use Rattle.fits.specs.Entries.{moveOf};
+ghost use Rattle.listing.specs.Listing.{page};
 ghost use Rattle.job.specs.Runs as runs;
 ghost use Rattle.job.specs.Steps.{lending};
-ghost use Rattle.tusvlane.specs.Answers.{codeOf, answerOf, comparisonOf};
-ghost use Rattle.tusvlane.specs.Promises.{Induces, Applies, Judges, Lists, Plants, Steps};
+ghost use Rattle.tusvlane.specs.Answers.{answerOf};
+ghost use Rattle.tusvlane.specs.Promises.{Checks, Induces, Compares, Applies};
+ghost use Rattle.tusvlane.specs.Promises.{Judges, JudgesOne, Lists, Plants, Steps};
+use calls::Refusal;
 use fits::Move;
 use job::State;
 use job::Stepped;
@@ -22,7 +21,6 @@ use reader::Reading;
 use splits::Compared;
 use splits::Induced;
 use table::Checked;
-use table::Refusal;
 
 // A refusal or 0, and one number.
 #[repr(C)]
@@ -60,9 +58,9 @@ pub struct StepAnswer {
 
 // A refusal alone.
 fn refused(r: Refusal) -> Answer
-    ensures { λ a. ⌜ a ≡ answerOf (refuses (numberOf r)) ⌝ }
+    ensures { λ a. ⌜ a ≡ answerOf (refuses r) ⌝ }
 {
-    let k = table::number(r) as u64;
+    let k = calls::number(r) as u64;
     Answer {
         refusal: k,
         value: 0,
@@ -72,11 +70,11 @@ fn refused(r: Refusal) -> Answer
 // Whether a table is a tree of n taxa: 0, or a refusal from 1 to 5.
 #[no_mangle]
 pub extern "C" fn tusvlane_check_tree(n: usize, table: &[u8]) -> u32
-    ensures { λ r. ⌜ r ≡ codeOf (treeSaid n (now (table .entry))) ⌝ }
+    ensures { λ r. ⌜ Checks n (now (table .entry)) r ⌝ }
 {
     match sides::check_tree(n, table) {
         Checked::Tree => 0,
-        Checked::Refused(r) => table::number(r) as u32,
+        Checked::Refused(r) => calls::number(r) as u32,
     }
 }
 
@@ -108,11 +106,11 @@ pub extern "C" fn tusvlane_compare(
     second: &[u8],
     partition: u64,
 ) -> Comparison
-    ensures { λ r. ⌜ r ≡ comparisonOf (comparedSaid n (now (first .entry)) (now (second .entry)) partition) ⌝ }
+    ensures { λ r. ⌜ Compares n (now (first .entry)) (now (second .entry)) partition r ⌝ }
 {
     match splits::compare(n, first, second, partition) {
         Compared::Refused(r) => Comparison {
-            refusal: table::number(r) as u64,
+            refusal: calls::number(r) as u64,
             distance: 0,
             missing: 0,
         },
@@ -131,7 +129,7 @@ pub extern "C" fn tusvlane_apply_move(n: usize, table: &mut [u8], m: Move) -> u3
 {
     match judge::apply_move(n, table, m) {
         Moved::Done => 0,
-        Moved::Refused(r) => table::number(r) as u32,
+        Moved::Refused(r) => calls::number(r) as u32,
     }
 }
 
@@ -145,7 +143,9 @@ pub extern "C" fn tusvlane_judge_move(
     m: Move,
     out: &mut [u64],
 ) -> Answer
-    ensures { λ r. ⌜ Judges n (now (table .entry)) (now (partitions .entry)) (moveOf m) (now (out .entry)) r (now (out .exit)) ⌝ }
+    ensures { λ r.
+        let ys = now (partitions .entry) in
+        ⌜ Judges n (now (table .entry)) ys (moveOf m) (now (out .entry)) r (now (out .exit)) ⌝ }
 {
     match judge::judge_move(n, table, partitions, m, out) {
         Judged::Refused(r) => refused(r),
@@ -159,7 +159,7 @@ pub extern "C" fn tusvlane_judge_move(
 // The distance that a move makes over one partition. Refusals 1 to 10.
 #[no_mangle]
 pub extern "C" fn tusvlane_judge_one(n: usize, table: &[u8], partition: u64, m: Move) -> Answer
-    ensures { λ r. ⌜ r ≡ answerOf (judgedOneSaid n (now (table .entry)) partition (moveOf m)) ⌝ }
+    ensures { λ r. ⌜ JudgesOne n (now (table .entry)) partition (moveOf m) r ⌝ }
 {
     match judge::judge_one(n, table, partition, m) {
         Verdict::Refused(r) => refused(r),
@@ -182,7 +182,10 @@ pub extern "C" fn tusvlane_list_move(
     out: &mut [u8],
     place: usize,
 ) -> Answer
-    ensures { λ r. ⌜ Lists n (now (table .entry)) (now (partitions .entry)) (moveOf m) number (now (out .entry)) place r (now (table .exit)) (now (out .exit)) ⌝ }
+    ensures { λ r.
+        let before = page (now (table .entry)) (now (out .entry)) in
+        let after = page (now (table .exit)) (now (out .exit)) in
+        ⌜ Lists n (now (partitions .entry)) (moveOf m) number place before r after ⌝ }
 {
     match listing::list_move(n, table, partitions, m, number, out, place) {
         Lines::Refused(r) => refused(r),
@@ -205,11 +208,11 @@ pub extern "C" fn tusvlane_read_newick(n: usize, text: &[u8], out: &mut [u8]) ->
             place: 0,
         },
         Reading::Refused(r) => Placed {
-            refusal: table::number(r) as u64,
+            refusal: calls::number(r) as u64,
             place: 0,
         },
         Reading::RefusedAt(r, p) => Placed {
-            refusal: table::number(r) as u64,
+            refusal: calls::number(r) as u64,
             place: p,
         },
     }
@@ -232,7 +235,10 @@ pub extern "C" fn tusvlane_step(
     partitions: &mut [u64],
     out: &mut [u8],
 ) -> StepAnswer
-    ensures { λ r. ⌜ Steps (now (job .entry)) state (lending (now (table .entry)) (now (partitions .entry)) (now (out .entry))) r (lending (now (table .exit)) (now (partitions .exit)) (now (out .exit))) ⌝ }
+    ensures { λ r.
+        let m = lending (now (table .entry)) (now (partitions .entry)) (now (out .entry)) in
+        let m′ = lending (now (table .exit)) (now (partitions .exit)) (now (out .exit)) in
+        ⌜ Steps (now (job .entry)) state m r m′ ⌝ }
 {
     match job::step(job, state, table, partitions, out) {
         Stepped::Next { state, wrote } => StepAnswer {
@@ -250,7 +256,7 @@ pub extern "C" fn tusvlane_step(
             next: job::start(),
         },
         Stepped::Refused { why, place } => StepAnswer {
-            refusal: table::number(why) as u64,
+            refusal: calls::number(why) as u64,
             ended: 0,
             place,
             wrote: 0,

@@ -1,3 +1,2 @@
-pub mod LeadLaws
 pub mod RowLaws
 pub mod WayLaws

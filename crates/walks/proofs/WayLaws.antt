@@ -2,28 +2,31 @@
 -- Assumes nothing.
 use mathlib.Core.Path.{_≡_, refl, sym, ap, ap₂, _∙_, subst}
 use mathlib.Core.Logic.{_⊎_, inl, inr}
-use mathlib.Core.Bool.{true, false}
+use mathlib.Core.Bool.{true, false, true≢false}
 use mathlib.Core.List.{List, [], _∷_, _++_, append-assoc}
 use Prim.Native.Nat.{ℕ, suc, _+_, _-_, _^_, _≤_, _<_}
 use native.Mathlib.Numerals.{add-one}
 use native.Mathlib.Omega.{arith}
-use lib.Dec.{eqb}
 use lib.ListN.{length, getD, set, drop, length-set, length-append}
 use lib.Seq.{drop-cons, set-at}
 use borrow.Author.Tests.{eq-eqb, ne-eqb, lt-ltb, le-ltb}
 use Rattle.taxa.specs.Sets.{has, size}
 use Rattle.taxa.proofs.Sizes.{size-le, size-pos}
-use Rattle.tree.specs.Tree.{lo, rows, nodes, far, part}
+use Rattle.tree.specs.Tree.{lo, rows, nodes, touches, far, part}
 use Rattle.tree.proofs.Rounds.{part-start}
 use Rattle.tree.proofs.RowCounts.{Pair}
+use Rattle.tree.proofs.Ends.{end-node}
 use Rattle.sides.specs.Filled.{At}
-use Rattle.sides.proofs.FillLaws.{vt, v-lt}
-use Rattle.moves.specs.Moves.{target}
-use Rattle.moves.specs.Groups.{beyond, walk, groups, stayed}
+use Rattle.sides.proofs.FillLaws.{at-end}
+use Rattle.moves.specs.Groups.{beyond, leads, onward, aside, walk, stayed}
 use Rattle.moves.proofs.GroupLists.{snoc}
-use Rattle.moves.proofs.Aims.{Aim, Taxon, Inner, kind, leaf-groups, inner-groups}
-use Rattle.walks.specs.Way.{room, onward, aside, Listed}
-use Rattle.walks.proofs.LeadLaws.{far-at, Turn, turn, not-taxon, leads-beyond}
+use Rattle.moves.proofs.Leads.{Turn, turn, not-taxon, leads-beyond}
+use Rattle.moves.proofs.WalkIs.{on-is, off-is, walk-last, walk-next}
+use Rattle.moves.proofs.Aims.{Aim, Taxon, Inner, kind, inner-groups}
+use Rattle.moves.specs.Plans.{sideGroups}
+use Rattle.moves.specs.declared.Side.{Side}
+use Rattle.walks.specs.Way.{room, Paced, Asked, Listed}
+use Rattle.walks.proofs.RowLaws.{far-at}
 
 -- ---- a list that grows in a lent one
 listed-none : (m : ℕ) (o : List ℕ) → Listed m [] o 0 o
@@ -38,16 +41,6 @@ listed-more m gs o c out x lm lo L = record {
   len = length-set out c x ∙ L .len;
 }
 
--- ---- one step of `walk`
-module _ (n : ℕ) (t : List ℕ) (b k v e : ℕ) where
-  walk-last : eqb (onward n t b v e) b ≡ true → walk n t b (suc k) v e ≡ beyond n t v (aside n t b v e) ∷ beyond n t v b ∷ []
-  unfolding walk onward aside
-  walk-last q = rw q
-
-  walk-next : eqb (onward n t b v e) b ≡ false → walk n t b (suc k) v e ≡ beyond n t v (aside n t b v e) ∷ walk n t b k (far t (onward n t b v e) v) (onward n t b v e)
-  unfolding walk onward aside
-  walk-next q = rw q
-
 -- ---- the way from row a's end v, come to w by row e: c groups are written, and b lies ahead
 pub record Walked (n : ℕ) (t : List ℕ) (b v a : ℕ) (o out : List ℕ) (w e c : ℕ) : Type 0 where
   pub here : At n t e w
@@ -59,49 +52,101 @@ pub record Walked (n : ℕ) (t : List ℕ) (b v a : ℕ) (o out : List ℕ) (w e
   pub listed : Listed room gs o c out
   pub rest : gs ++ walk n t b (nodes n - c) w e ≡ walk n t b (nodes n) v a
 
-module _ (n : ℕ) (t : List ℕ) (b v a : ℕ) (A : At n t a v) (lb : b < rows n) (aim : target n t a v b ≡ true) where
-  A′ : Aim n t a v b
-  A′ = record { valid = vt n t a v A; a-lt = A .row; b-lt = lb; a-v = A .touch; fits = aim }
+-- ---- the two other rows at an end
+module _ {n : ℕ} {t : List ℕ} {e v f g : ℕ} (a : At n t e v) (K : Pair n t e v f g) where
+  pub pair-f : At n t f v
+  pair-f = record { good = a .good; row = K .f-lt; touch = K .f-p }
 
-  pub walked-start : (o : List ℕ) → n ≤ v → Walked n t b v a o o v a 0
-  walked-start o inner = go (kind A′)
-    where
-      go : Taxon n a v b ⊎ Inner n t a v b → Walked n t b v a o o v a 0
-      go (inl w) = absurd (omega (arith, w .0))
-      go (inr w) = record {
-        here = A;
-        b-lt = lb;
-        be = w .1;
-        ahead = w .2;
-        fuel = omega (arith, size-le (nodes n) (part n t a v));
-        gs = [];
-        listed = listed-none room o;
-        rest = let z : nodes n - 0 ≡ nodes n = omega arith in ap (λ (k : ℕ). walk n t b k v a) z;
+  pub pair-g : At n t g v
+  pair-g = record { good = a .good; row = K .g-lt; touch = K .g-p }
+
+-- ---- one step, f and g being those rows
+module _ {n : ℕ} {t : List ℕ} {e v f g : ℕ} (K : Pair n t e v f g) {b : ℕ} where
+  pub paced-first : leads n t b v f ≡ true → {off : ℕ} → off ≡ beyond n t v g → Paced n t b v e f off
+  paced-first h k =
+      record {
+        leads-on = sym (on-is n t b e v f g (K .list) true h);
+        hangs-off = k ∙ ap (beyond n t v) (sym (off-is n t b e v f g (K .list) true h));
       }
 
-  pub way-one : (o : List ℕ) (x : ℕ) → 0 < length o → v < n → x ≡ 2 ^ v → Listed room (groups n t a v b) o 1 (set o 0 x)
-  way-one o x l tax h =
-      subst (λ (gs : List ℕ). Listed room gs o 1 (set o 0 x)) (ap (λ (y : ℕ). y ∷ []) h ∙ sym (leaf-groups A′ tax)) (listed-more room [] o 0 o x (omega arith) l (listed-none room o))
+  pub paced-second : leads n t b v f ≡ false → {off : ℕ} → off ≡ beyond n t v f → Paced n t b v e g off
+  paced-second h k =
+      record {
+        leads-on = sym (on-is n t b e v f g (K .list) false h);
+        hangs-off = k ∙ ap (beyond n t v) (sym (off-is n t b e v f g (K .list) false h));
+      }
 
-  pub way-all : (o out : List ℕ) (k : ℕ) → n ≤ v → Listed room (walk n t b (nodes n) v a) o k out → Listed room (groups n t a v b) o k out
-  way-all o out k inner L = subst (λ (gs : List ℕ). Listed room gs o k out) (sym (inner-groups A′ inner)) L
+-- ---- an end of row a, and what its groups ask for
+module _ {n : ℕ} {t near s : List ℕ} {a : ℕ} {end : Side} {o : List ℕ} (K : Asked n t near s a end o) where
+  pub asked-at : At n t a (end .node)
+  asked-at = record { good = K .looked .good; row = K .row; touch = K .right .touch }
+
+  module _ (goes : end .goes ≡ true) where
+    A : Aim n t a (end .node) (end .target)
+    A =
+        record {
+          valid = K .looked .good .valid;
+          a-lt = K .row;
+          b-lt = K .right .row;
+          a-v = K .right .touch;
+          fits = K .right .aim goes .0;
+        }
+
+    -- An end that goes is no taxon: its target would be row a, which touches
+    -- it.
+    inner : Inner n t a (end .node) (end .target)
+    inner = go (kind A)
+      where
+        go : Taxon n a (end .node) (end .target) ⊎ Inner n t a (end .node) (end .target) → Inner n t a (end .node) (end .target)
+        go (inl w) =
+            absurd (true≢false (sym (K .right .touch) ∙ ap (λ (r : ℕ). touches t r (end .node)) (sym (w .1)) ∙ K .right .aim goes .1))
+        go (inr w) = w
+
+    pub walked-start : Walked n t (end .target) (end .node) a o o (end .node) a 0
+    walked-start =
+        record {
+          here = asked-at;
+          b-lt = K .right .row;
+          be = inner .1;
+          ahead = inner .2;
+          fuel = omega (arith, size-le (nodes n) (part n t a (end .node)));
+          gs = [];
+          listed = listed-none room o;
+          rest = let z : nodes n - 0 ≡ nodes n = omega arith in ap (λ (k : ℕ). walk n t (end .target) k (end .node) a) z;
+        }
+
+    pub way-all : {out : List ℕ} {k : ℕ} → Listed room (walk n t (end .target) (nodes n) (end .node) a) o k out
+        → Listed room (sideGroups n t a end) o k out
+    unfolding sideGroups
+    way-all {out} {k} L = rw goes (subst (λ (gs : List ℕ). Listed room gs o k out) (sym (inner-groups A (inner .0))) L)
+
+  module _ (stays : end .goes ≡ false) where
+    pub stays-all : {out : List ℕ} {k : ℕ} → Listed 2 (stayed n t a (end .node)) o k out → Listed room (sideGroups n t a end) o k out
+    unfolding sideGroups
+    stays-all {out} {k} L = rw stays (record { count = L .count; few = omega (arith, L .few); memory = L .memory; len = L .len })
 
 module _ {n : ℕ} {t : List ℕ} {b v a : ℕ} {o out : List ℕ} {w e c : ℕ} (W : Walked n t b v a o out w e c) where
   pub walked-inner : n ≤ w
-  walked-inner = not-taxon n t b e w (W .here) (W .b-lt) (W .be) (W .ahead)
+  walked-inner = not-taxon (at-end (W .here)) (W .b-lt) (W .be) (W .ahead)
 
   pub walked-lt : c < nodes n
-  walked-lt = omega (arith, W .fuel, size-pos (nodes n) (part n t e w) w (v-lt n t e w (W .here)) (part-start n t e w))
+  walked-lt = omega (arith, W .fuel, size-pos (nodes n) (part n t e w) w (end-node (at-end (W .here))) (part-start n t e w))
 
   left : nodes n - c ≡ suc (nodes n - (c + 1))
   left = omega (arith, walked-lt)
 
-  module _ {on off : ℕ} (h : on ≡ onward n t b w e) (k : off ≡ beyond n t w (aside n t b w e)) where
+  module _ {on off : ℕ} (P : Paced n t b w e on off) where
+    h : on ≡ onward n t b w e
+    h = P .leads-on
+
+    k : off ≡ beyond n t w (aside n t b w e)
+    k = P .hangs-off
+
     T : Turn n t b e w on (aside n t b w e)
-    T = rw h (turn n t b e w (W .here) walked-inner (W .b-lt) (W .be) (W .ahead))
+    T = rw h (turn (at-end (W .here)) walked-inner (W .b-lt) (W .be) (W .ahead))
 
     pub on-at : At n t on w
-    on-at = T .on-branch .at
+    on-at = record { good = W .here .good; row = T .on-branch .at .row; touch = T .on-branch .at .touch }
 
     -- one group more is written
     more : length o ≡ room → Listed room (W .gs ++ (off ∷ [])) o (c + 1) (set out c off)
@@ -113,10 +158,10 @@ module _ {n : ℕ} {t : List ℕ} {b v a : ℕ} {o out : List ℕ} {w e c : ℕ}
 
     pub walked-next : (w′ : ℕ) → length o ≡ room → (on ≡ b → ⊥) → w′ ≡ far t on w → Walked n t b v a o (set out c off) w′ on (c + 1)
     walked-next w′ l d hw = record {
-      here = rw hw (far-at n t on w on-at);
+      here = rw hw (far-at on-at);
       b-lt = W .b-lt;
       be = λ x. d (sym x);
-      ahead = rw hw (sym (leads-beyond n t b w on on-at (W .b-lt) (λ x. d (sym x))) ∙ T .on-leads);
+      ahead = rw hw (sym (leads-beyond (at-end on-at) (W .b-lt) (λ x. d (sym x))) ∙ T .on-leads);
       fuel = rw hw (omega (arith, W .fuel, T .on-branch .fall));
       gs = W .gs ++ (off ∷ []);
       listed = more l;

@@ -1,29 +1,31 @@
 -- One step of a way, and a list written at the start of a lent one.
-use Prim.Native.Nat.{ℕ, _*_, _≤_}
+use Prim.Native.Nat.{ℕ, _*_, _≤_, _<_}
 use mathlib.Core.Path.{_≡_}
 use mathlib.Core.List.{List, _++_}
-use lib.ListN.{length, getD, drop}
+use lib.ListN.{length, drop}
 use Rattle.taxa.specs.Most.{most}
-use Rattle.taxa.specs.Sets.{pick}
-use Rattle.tree.specs.Tree.{rows, others}
-use Rattle.moves.specs.Groups.{leads}
+use Rattle.tree.specs.Tree.{rows}
+use Rattle.sides.specs.Filled.{Looked}
+use Rattle.moves.specs.Groups.{beyond, onward, aside}
+use Rattle.moves.specs.Plans.{SideRight}
+use Rattle.moves.specs.declared.Side.{Side}
 
 -- how many groups a lent list has room for
 abbrev pub room : ℕ
 room = 2 * most
 
--- at node v, come by row e: the row that leads on to b, and the other
-unfoldable pub onward : ℕ → List ℕ → ℕ → ℕ → ℕ → ℕ
-onward n t b v e =
-    let x = getD (others t e v (rows n)) 0 0 in
-    let y = getD (others t e v (rows n)) 1 0 in
-    pick (leads n t b v x) x y
+-- at node v, come by row e: on leads on to b, and off is the taxa beyond the
+-- other
+pub record Paced (n : ℕ) (t : List ℕ) (b v e on off : ℕ) : Type 0 where
+  pub leads-on : on ≡ onward n t b v e
+  pub hangs-off : off ≡ beyond n t v (aside n t b v e)
 
-unfoldable pub aside : ℕ → List ℕ → ℕ → ℕ → ℕ → ℕ
-aside n t b v e =
-    let x = getD (others t e v (rows n)) 0 0 in
-    let y = getD (others t e v (rows n)) 1 0 in
-    pick (leads n t b v x) y x
+-- what the groups on the side of an end of row a ask for
+pub record Asked (n : ℕ) (t near s : List ℕ) (a : ℕ) (end : Side) (out : List ℕ) : Type 0 where
+  pub looked : Looked n t near s
+  pub row : a < rows n
+  pub right : SideRight n t a end
+  pub for-groups : length out ≡ room
 
 -- k is how many numbers gs has, at most m, and out′ is out with gs in place of
 -- its first numbers

@@ -2,15 +2,14 @@
 // sides of the rows alone.
 ghost use Prim.Native.Nat.{_<_, _≤_};
 ghost use mathlib.Core.Path.{_≡_};
-ghost use mathlib.Core.Bool.{true};
-ghost use lib.ListN.{length};
+ghost use mathlib.Core.Bool.{true, false};
 ghost use Rattle.tree.specs.Tree.{rows};
-ghost use Rattle.tree.specs.Refusals.{Accepted};
-ghost use Rattle.near.specs.Near.{Near};
-ghost use Rattle.sides.specs.Filled.{At, Sides};
+ghost use Rattle.sides.specs.Filled.{At, Sides, Sided, Looked};
 ghost use Rattle.moves.specs.Moves.{endWith, target};
 ghost use Rattle.moves.specs.Groups as groups_spec;
-ghost use Rattle.walks.specs.Way.{room, onward, aside, Listed};
+ghost use Rattle.moves.specs.Plans.{sideGroups};
+ghost use Rattle.walks.specs.Way.{room, Paced, Asked, Listed};
+use moves::Side;
 
 // How many groups a lent list has room for.
 pub const ROOM: usize = 128;
@@ -23,7 +22,7 @@ struct Step {
 
 // The taxa beyond row x, seen from its end v.
 pub fn beyond(n: usize, t: &[u8], s: &[u64], v: usize, x: usize) -> u64
-    requires { ⌜ (At n (now t) x v) × (Sides n (now t) (now s)) ⌝ }
+    requires { let t = now t in ⌜ (At n t x v) × (Sides n t (now s)) ⌝ }
     ensures { λ r. ⌜ r ≡ groups_spec.beyond n (now (t .entry)) v x ⌝ }
 {
     let y = s[x];
@@ -36,7 +35,7 @@ pub fn beyond(n: usize, t: &[u8], s: &[u64], v: usize, x: usize) -> u64
 
 // Whether row x, seen from its end v, is row b or leads to it.
 pub fn leads(n: usize, t: &[u8], s: &[u64], b: usize, v: usize, x: usize) -> bool
-    requires { ⌜ (At n (now t) x v) × (Sides n (now t) (now s)) × (b < rows n) ⌝ }
+    requires { let t = now t in ⌜ (At n t x v) × (Sides n t (now s)) × (b < rows n) ⌝ }
     ensures { λ r. ⌜ r ≡ groups_spec.leads n (now (t .entry)) b v x ⌝ }
 {
     if x == b {
@@ -52,7 +51,7 @@ pub fn leads(n: usize, t: &[u8], s: &[u64], b: usize, v: usize, x: usize) -> boo
 
 // The end of row a in the part where row b is.
 pub fn end_with(n: usize, t: &[u8], s: &[u64], a: usize, b: usize) -> usize
-    requires { ⌜ (Accepted n (now t)) × (a < rows n) × (b < rows n) × (a ≡ b → ⊥) × (Sides n (now t) (now s)) ⌝ }
+    requires { ⌜ (Sided n (now t) (now s)) × (a < rows n) × (b < rows n) × (a ≡ b → ⊥) ⌝ }
     ensures { λ r. ⌜ r ≡ endWith n (now (t .entry)) a b ⌝ }
 {
     let p = table::lo(t, a);
@@ -65,7 +64,7 @@ pub fn end_with(n: usize, t: &[u8], s: &[u64], a: usize, b: usize) -> usize
 
 // Whether row b can be the target of row a's end v.
 pub fn is_target(n: usize, t: &[u8], s: &[u64], a: usize, v: usize, b: usize) -> bool
-    requires { ⌜ (At n (now t) a v) × (Sides n (now t) (now s)) × (b < rows n) ⌝ }
+    requires { let t = now t in ⌜ (At n t a v) × (Sides n t (now s)) × (b < rows n) ⌝ }
     ensures { λ r. ⌜ r ≡ target n (now (t .entry)) a v b ⌝ }
 {
     if v < n {
@@ -81,8 +80,9 @@ pub fn is_target(n: usize, t: &[u8], s: &[u64], a: usize, v: usize, b: usize) ->
 // At the inner node v, come by row e: the row that leads on to b, and the taxa
 // beyond the other.
 fn pace(n: usize, t: &[u8], near: &[u8], s: &[u64], b: usize, v: usize, e: usize) -> Step
-    requires { ⌜ (At n (now t) e v) × (n ≤ v) × (b < rows n) × (Sides n (now t) (now s)) × (Near n (now t) (now near)) ⌝ }
-    ensures { λ r. ⌜ (r .on ≡ onward n (now (t .entry)) b v e) × (r .off ≡ groups_spec.beyond n (now (t .entry)) v (aside n (now (t .entry)) b v e)) ⌝ }
+    requires { let t = now t in
+        ⌜ (At n t e v) × (n ≤ v) × (b < rows n) × (Looked n t (now near) (now s)) ⌝ }
+    ensures { λ r. ⌜ Paced n (now (t .entry)) b v e (r .on) (r .off) ⌝ }
 {
     let o = near::others(near, e, v);
     let f = o.f;
@@ -95,26 +95,24 @@ fn pace(n: usize, t: &[u8], near: &[u8], s: &[u64], b: usize, v: usize, e: usize
     Step { on: g, off: h }
 }
 
-// The groups on the side of row a's end v, whose target is b, at the start of
-// the lent list: how many.
-pub fn way(
+// The groups on the way from an end of row a that goes to its target, at the
+// start of the lent list: how many.
+fn way(
     n: usize,
     t: &[u8],
     near: &[u8],
     s: &[u64],
     a: usize,
-    v: usize,
-    b: usize,
+    end: Side,
     out: &mut [u64; ROOM],
 ) -> usize
-    requires { ⌜ (At n (now t) a v) × (b < rows n) × (target n (now t) a v b ≡ true) × (Sides n (now t) (now s)) × (Near n (now t) (now near)) × (length (now out) ≡ room) ⌝ }
-    ensures { λ k. ⌜ Listed room (groups_spec.groups n (now (t .entry)) a v b) (now (out .entry)) k (now (out .exit)) ⌝ }
+    requires { ⌜ (Asked n (now t) (now near) (now s) a end (now out)) × (end .goes ≡ true) ⌝ }
+    ensures { λ k.
+        let gs = sideGroups n (now (t .entry)) a end in
+        ⌜ Listed room gs (now (out .entry)) k (now (out .exit)) ⌝ }
 {
-    if v < n {
-        out[0] = taxa::only(v);
-        return 1;
-    }
-    let mut w = v;
+    let b = end.target;
+    let mut w = end.node;
     let mut e = a;
     let mut c: usize = 0;
     loop {
@@ -131,20 +129,23 @@ pub fn way(
     }
 }
 
-// The groups of an end v of row a that stays, at the start of the lent list:
-// how many.
-pub fn stays(
+// The groups of an end of row a that stays, at the start of the lent list: how
+// many.
+fn stays(
     n: usize,
     t: &[u8],
     near: &[u8],
     s: &[u64],
     a: usize,
-    v: usize,
+    end: Side,
     out: &mut [u64; ROOM],
 ) -> usize
-    requires { ⌜ (At n (now t) a v) × (Sides n (now t) (now s)) × (Near n (now t) (now near)) × (length (now out) ≡ room) ⌝ }
-    ensures { λ k. ⌜ Listed 2 (groups_spec.stayed n (now (t .entry)) a v) (now (out .entry)) k (now (out .exit)) ⌝ }
+    requires { ⌜ (Asked n (now t) (now near) (now s) a end (now out)) × (end .goes ≡ false) ⌝ }
+    ensures { λ k.
+        let gs = sideGroups n (now (t .entry)) a end in
+        ⌜ Listed room gs (now (out .entry)) k (now (out .exit)) ⌝ }
 {
+    let v = end.node;
     if v < n {
         out[0] = taxa::only(v);
         return 1;
@@ -155,4 +156,26 @@ pub fn stays(
     out[0] = beyond(n, t, s, v, f);
     out[1] = beyond(n, t, s, v, g);
     2
+}
+
+// The groups on the side of an end of row a, at the start of the lent list:
+// how many.
+pub fn groups(
+    n: usize,
+    t: &[u8],
+    near: &[u8],
+    s: &[u64],
+    a: usize,
+    end: Side,
+    out: &mut [u64; ROOM],
+) -> usize
+    requires { ⌜ Asked n (now t) (now near) (now s) a end (now out) ⌝ }
+    ensures { λ k.
+        let gs = sideGroups n (now (t .entry)) a end in
+        ⌜ Listed room gs (now (out .entry)) k (now (out .exit)) ⌝ }
+{
+    if end.goes {
+        return way(n, t, near, s, a, end, out);
+    }
+    stays(n, t, near, s, a, end, out)
 }

@@ -1,9 +1,9 @@
 // The listing of a whole job, written on standard output.
 ghost use Prim.Native.Nat.{_≤_};
 ghost use lib.ListN.{length};
+use calls::Refusal;
 use job::Stepped;
 use libc::STDOUT_FILENO;
-use table::Refusal;
 
 // Writes the first bytes of what was lent for lines; whether all of them were
 // written.
@@ -23,7 +23,7 @@ pub fn end(moves: u64) -> bool {
 // Writes the closing line of a job that is refused; whether it was written.
 pub fn refused(why: Refusal, place: usize) -> bool {
     let mut line = [0u8; 64];
-    let wrote = text::refused_line(table::number(why) as u64, place as u64, &mut line);
+    let wrote = text::refused_line(calls::number(why) as u64, place as u64, &mut line);
     put(&line, wrote)
 }
 

@@ -1,9 +1,7 @@
 -- `job::keep_table` meets its contract. Assumes nothing.
 use mathlib.Core.Path.{sym, ap, _∙_}
-use mathlib.Core.List.{[]}
+use Rattle.calls.proofs.CallLaws.{call-is, call-refusesAt}
 use Rattle.table.specs.Says.{checkSays}
-use Rattle.job.specs.Steps.{lending}
-use Rattle.job.proofs.StepLaws.{gives-as, gives-stop}
 use Rattle.job.proofs.ReadLaws.{kept-refused, kept-put}
 use borrow.Author.Needs.{needs}
 use Rattle.job.proofs.keep_table.Statement.{statement}
@@ -27,8 +25,8 @@ returns c =
     let at-check-tree = at-answer .before .before in
     let st = at-check-tree .before .before .before in
     let a = st .args in
-    let no = sym (at-check-tree .check-tree .ensures) ∙ ap checkSays (at-answer .answer .given .1) in
-    gives-stop (lending (a .table .now) [] []) _ _ (a .at)
+    let no = sym (at-check-tree .check-tree .ensures .says) ∙ ap checkSays (at-answer .answer .given .1) in
+    call-refusesAt _ (a .at)
     (kept-refused (a .at) (a .n) (a .t .now) (a .table .now) (st .pre .1) (st .pre .2) _ no)
 
 same-length : tie.Need-same-length
@@ -41,8 +39,8 @@ returns-2 c =
     let at-check-tree = at-enum-told .before .before in
     let st = at-check-tree .before .before .before in
     let a = st .args in
-    let yes = sym (at-check-tree .check-tree .ensures) ∙ ap checkSays (at-enum-told .enum-told .given .1) in
-    gives-as (kept-put (a .at) (a .n) (a .t .now) (a .table .now) (st .pre .1) (st .pre .2) yes)
+    let yes = sym (at-check-tree .check-tree .ensures .says) ∙ ap checkSays (at-enum-told .enum-told .given .1) in
+    call-is (kept-put (a .at) (a .n) (a .t .now) (a .table .now) (st .pre .1) (st .pre .2) yes)
     (at-put-table .put-table .ensures)
 
 pub keep-table-spec : {M : Type 1} → statement M

@@ -1,8 +1,6 @@
 -- `job::put_table` meets its contract. Assumes nothing.
-use mathlib.Core.List.{[]}
-use Rattle.table.specs.declared.Refusal.{Refusal}
-use Rattle.job.specs.Steps.{lending}
-use Rattle.job.proofs.StepLaws.{gives-stop}
+use Rattle.calls.proofs.CallLaws.{call-refusesAt}
+use Rattle.calls.specs.declared.Refusal.{Refusal}
 use Rattle.job.proofs.ReadLaws.{put-11, put-next}
 use borrow.Author.Needs.{needs}
 use Rattle.job.proofs.put_table.Statement.{statement}
@@ -12,7 +10,7 @@ returns : tie.Need-returns
 returns c =
     let st = c .before .before .before in
     let a = st .args in
-    gives-stop (lending (a .table .now) [] []) _ Refusal.Room (a .at)
+    call-refusesAt Refusal.Room (a .at)
     (put-11 (a .at) (a .n) (a .t .now) (a .table .now) (c .if1 .taken))
 
 copy-requires : tie.Need-copy-requires

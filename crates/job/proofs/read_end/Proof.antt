@@ -6,11 +6,12 @@ use Rattle.job.proofs.SeenLaws.{end-12, end-16, end-over}
 use borrow.Author.Needs.{needs}
 use Rattle.job.proofs.read_end.Statement.{statement}
 use Rattle.job.proofs.read_end.Tie as tie
+use Rattle.calls.specs.Calls.{tells}
 
 returns : tie.Need-returns
 returns c =
     let st = c .before .before .before in
-    sym (ap toldOf (end-12 (st .args .s) (st .args .parts .now) (st .pre) (st .args .long) (c .if1 .taken)))
+    sym (ap (tells toldOf) (end-12 (st .args .s) (st .args .parts .now) (st .pre) (st .args .long) (c .if1 .taken)))
 
 seen-so-far-requires : tie.Need-seen-so-far-requires
 seen-so-far-requires c κs =
@@ -24,13 +25,13 @@ returns-2 c =
     let two = c .before in
     let st = two .before .before .before .before .before in
     let no = sym (two .before .seen-so-far .ensures) ∙ not-true (two .before .seen-so-far .result) (two .if2 .taken) in
-    c .unseen .ensures ∙ sym (ap toldOf (end-16 (st .args .s) (st .args .parts .now) (st .pre) (st .args .long) (two .before .before .if1 .left) no))
+    c .unseen .ensures ∙ sym (ap (tells toldOf) (end-16 (st .args .s) (st .args .parts .now) (st .pre) (st .args .long) (two .before .before .if1 .left) no))
 
 returns-3 : tie.Need-returns-3
 returns-3 c =
     let st = c .before .before .before .before .before in
     let yes = sym (c .before .seen-so-far .ensures) ∙ not-false (c .before .seen-so-far .result) (c .if2 .left) in
-    sym (ap toldOf (end-over (st .args .s) (st .args .parts .now) (st .pre) (st .args .long) (c .before .before .if1 .left) yes))
+    sym (ap (tells toldOf) (end-over (st .args .s) (st .args .parts .now) (st .pre) (st .args .long) (c .before .before .if1 .left) yes))
 
 pub read-end-spec : {M : Type 1} → statement M
 read-end-spec = tie.close (tie.spec returns seen-so-far-requires unseen-requires returns-2 returns-3)

@@ -1,8 +1,9 @@
 -- `job::read_field` meets its contract. Assumes nothing.
 use mathlib.Core.Path.{ap}
+use Rattle.calls.proofs.CallLaws.{call-is}
 use Rattle.fields.specs.Fields.{tagAt}
 use Rattle.job.specs.Steps.{lending, knownOf, fitting}
-use Rattle.job.proofs.StepLaws.{gives-as, not-first, not-second}
+use Rattle.job.proofs.StepLaws.{not-first, not-second}
 use Rattle.job.proofs.FieldSteps.{field-1, field-2, field-3, field-4}
 use Rattle.job.proofs.FieldSteps.{taxa-gives, table-gives, partition-gives, far-offset}
 use borrow.Author.Needs.{needs}
@@ -23,8 +24,8 @@ returns c =
     let job = a .job .now in
     let s = a .s in
     let m = lending (a .table .now) (a .parts .now) (a .out .now) in
-    gives-as (ap (fitting (s .at) m) (field-1 job (knownOf s m) (tagAt job (s .at)) (at-if1 .if1 .taken)))
-    (taxa-gives job (s .at) _ m (c .read-taxa .ensures))
+    call-is (ap (fitting (s .at) m) (field-1 job (knownOf s m) (tagAt job (s .at)) (at-if1 .if1 .taken)))
+    (taxa-gives job (s .at) (c .read-taxa .result) m (c .read-taxa .ensures))
 
 read-table-requires : tie.Need-read-table-requires
 read-table-requires c κs =
@@ -48,8 +49,8 @@ returns-2 c =
     let job = a .job .now in
     let s = a .s in
     let m = lending (a .table .now) (a .parts .now) (a .out .now) in
-    gives-as (ap (fitting (s .at) m) (field-2 job (knownOf s m) (tagAt job (s .at)) (at-if2 .if2 .taken)))
-    (table-gives job (s .at) (s .taxa) _ (a .table .now) _ (a .parts .now) (a .out .now)
+    call-is (ap (fitting (s .at) m) (field-2 job (knownOf s m) (tagAt job (s .at)) (at-if2 .if2 .taken)))
+    (table-gives job (s .at) (s .taxa) (at-read-table .read-table .result) (a .table .now) _ (a .parts .now) (a .out .now)
     (at-read-table .read-table .ensures))
 
 read-partition-requires : tie.Need-read-partition-requires
@@ -74,8 +75,8 @@ returns-3 c =
     let job = a .job .now in
     let s = a .s in
     let m = lending (a .table .now) (a .parts .now) (a .out .now) in
-    gives-as (ap (fitting (s .at) m) (field-3 job (knownOf s m) (tagAt job (s .at)) (at-if3 .if3 .taken)))
-    (partition-gives job s _ (a .table .now) (a .parts .now) _ (a .out .now)
+    call-is (ap (fitting (s .at) m) (field-3 job (knownOf s m) (tagAt job (s .at)) (at-if3 .if3 .taken)))
+    (partition-gives job s (at-read-partition .read-partition .result) (a .table .now) (a .parts .now) _ (a .out .now)
     (at-read-partition .read-partition .ensures))
 
 read-move-requires : tie.Need-read-move-requires
@@ -112,7 +113,7 @@ returns-4 c =
     let m = lending (a .table .now) (a .parts .now) (a .out .now) in
     let tag = tagAt job (s .at) in
     let which = field-4 job (knownOf s m) tag (at-if1 .if1 .left) (at-if2 .if2 .left) (at-if3 .if3 .left) in
-    gives-as (ap (fitting (s .at) m) which) (at-read-move .read-move .ensures)
+    call-is (ap (fitting (s .at) m) which) (at-read-move .read-move .ensures)
 
 pub read-field-spec : {M : Type 1} → statement M
 read-field-spec =

@@ -2,11 +2,12 @@
 use mathlib.Core.Path.{sym, _∙_}
 use native.Mathlib.Omega.{arith}
 use borrow.Author.Tests.{not-true, not-false}
-use Rattle.table.specs.declared.Refusal.{Refusal}
-use Rattle.fits.specs.Bytes.{moveOf}
+use Rattle.calls.proofs.CallLaws.{call-refusesAt}
+use Rattle.calls.specs.declared.Refusal.{Refusal}
+use Rattle.fits.specs.Entries.{moveOf}
 use Rattle.job.specs.Steps.{lending}
 use Rattle.job.proofs.ReadLaws.{reaches}
-use Rattle.job.proofs.StepLaws.{gives-stop, move-12, refused-there, done-there, table-part, parts-held}
+use Rattle.job.proofs.StepLaws.{move-12, refused-there, done-there, table-part, parts-held}
 use borrow.Author.Needs.{needs}
 use Rattle.job.proofs.read_move.Statement.{statement}
 use Rattle.job.proofs.read_move.Tie as tie
@@ -20,7 +21,7 @@ returns c =
     let st = at-length-right .before .before .before .before .before in
     let a = st .args in
     let no = sym (at-length-right .length-right .ensures) ∙ not-true (at-length-right .length-right .result) (c .if1 .taken) in
-    gives-stop (lending (a .table .now) (a .parts .now) (a .out .now)) _ Refusal.Field (a .s .at)
+    call-refusesAt Refusal.Field (a .s .at)
     (move-12 (a .job .now) (a .s) (a .table .now) (a .parts .now) (a .out .now) (st .pre .2) (st .pre .1) no)
 
 add-move-in : tie.Need-add-move-in

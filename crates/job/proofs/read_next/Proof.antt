@@ -1,9 +1,10 @@
 -- `job::read_next` meets its contract. Assumes nothing.
 use mathlib.Core.Path.{sym, _∙_}
 use borrow.Author.Tests.{not-true, not-false}
-use Rattle.table.specs.declared.Refusal.{Refusal}
+use Rattle.calls.proofs.CallLaws.{call-is, call-refusesAt}
+use Rattle.calls.specs.declared.Refusal.{Refusal}
 use Rattle.job.specs.Steps.{lending}
-use Rattle.job.proofs.StepLaws.{gives-as, gives-told, gives-stop}
+use Rattle.job.proofs.StepLaws.{gives-refused}
 use Rattle.job.proofs.StateLaws.{parted-of}
 use Rattle.job.proofs.FieldSteps.{end-gives, tag-16, tag-12, tag-next}
 use borrow.Author.Needs.{needs}
@@ -24,7 +25,7 @@ returns c =
     let st = at-if1 .before .before .before .before .before in
     let a = st .args in
     let m = lending (a .table .now) (a .parts .now) (a .out .now) in
-    end-gives (a .job .now) (a .s) m _ (at-if1 .if1 .taken) (c .read-end .ensures)
+    end-gives (a .job .now) (a .s) m (c .read-end .result) (at-if1 .if1 .taken) (c .read-end .ensures)
 
 shared-slice-read-tag : tie.Need-shared-slice-read-tag
 shared-slice-read-tag c = search needs
@@ -50,7 +51,7 @@ returns-2 c =
     let m = lending (a .table .now) (a .parts .now) (a .out .now) in
     let seen = at-seen-before .seen-before in
     let no = sym (seen .ensures) ∙ not-true (seen .result) (at-if2 .if2 .taken) in
-    gives-told m _ _ 16 (a .s .at) (c .unseen .ensures)
+    gives-refused (c .unseen .result) (c .unseen .ensures)
     (tag-16 (a .job .now) (a .s) m (st .pre .1) (at-if1 .if1 .left) no)
 
 allowed-requires : tie.Need-allowed-requires
@@ -71,7 +72,7 @@ returns-3 c =
     let seen = at-seen-before .seen-before in
     let yes = sym (seen .ensures) ∙ not-false (seen .result) (at-if2 .if2 .left) in
     let no = sym (at-allowed .allowed .ensures) ∙ not-true (at-allowed .allowed .result) (c .if3 .taken) in
-    gives-stop m _ Refusal.Field (a .s .at)
+    call-refusesAt Refusal.Field (a .s .at)
     (tag-12 (a .job .now) (a .s) m (st .pre .1) (at-if1 .if1 .left) yes no)
 
 read-field-requires : tie.Need-read-field-requires
@@ -106,7 +107,7 @@ returns-4 c =
     let seen = at-seen-before .seen-before in
     let yes = sym (seen .ensures) ∙ not-false (seen .result) (at-if2 .if2 .left) in
     let may = sym (at-allowed .allowed .ensures) ∙ not-false (at-allowed .allowed .result) (at-if3 .if3 .left) in
-    gives-as (tag-next (a .job .now) (a .s) m (st .pre .1) (at-if1 .if1 .left) yes may)
+    call-is (tag-next (a .job .now) (a .s) m (st .pre .1) (at-if1 .if1 .left) yes may)
     (at-read-field .read-field .ensures)
 
 pub read-next-spec : {M : Type 1} → statement M

@@ -1,11 +1,9 @@
 -- `job::read_partition` meets its contract. Assumes nothing.
 use mathlib.Core.Path.{sym, _∙_}
-use mathlib.Core.List.{[]}
 use native.Mathlib.Omega.{arith}
 use borrow.Author.Tests.{not-true, not-false}
-use Rattle.table.specs.declared.Refusal.{Refusal}
-use Rattle.job.specs.Steps.{lending}
-use Rattle.job.proofs.StepLaws.{gives-stop}
+use Rattle.calls.proofs.CallLaws.{call-refusesAt}
+use Rattle.calls.specs.declared.Refusal.{Refusal}
 use Rattle.job.proofs.ReadLaws.{reaches, part-12, part-6, part-11, part-next}
 use borrow.Author.Needs.{needs}
 use Rattle.job.proofs.read_partition.Statement.{statement}
@@ -20,7 +18,7 @@ returns c =
     let st = at-length-right .before .before .before in
     let a = st .args in
     let no = sym (at-length-right .length-right .ensures) ∙ not-true (at-length-right .length-right .result) (c .if1 .taken) in
-    gives-stop (lending [] (a .parts .now) []) _ Refusal.Field (a .s .at) (part-12 (a .job .now) (a .s) (a .parts .now) no)
+    call-refusesAt Refusal.Field (a .s .at) (part-12 (a .job .now) (a .s) (a .parts .now) no)
 
 add-number-in : tie.Need-add-number-in
 add-number-in c = search needs
@@ -46,7 +44,7 @@ returns-2 c =
     let a = st .args in
     let whole = sym (at-length-right .length-right .ensures) ∙ not-false (at-length-right .length-right .result) (at-if1 .if1 .left) in
     let no = sym (at-within .within .ensures) ∙ not-true (at-within .within .result) (c .if2 .taken) in
-    gives-stop (lending [] (a .parts .now) []) _ Refusal.Partition (a .s .at)
+    call-refusesAt Refusal.Partition (a .s .at)
     (part-6 (a .job .now) (a .s) (a .parts .now) whole _ (at-number-in .number-in .ensures) no)
 
 sub-free : tie.Need-sub-free
@@ -63,7 +61,7 @@ returns-3 c =
     let a = st .args in
     let whole = sym (at-length-right .length-right .ensures) ∙ not-false (at-length-right .length-right .result) (at-if1 .if1 .left) in
     let yes = sym (at-within .within .ensures) ∙ not-false (at-within .within .result) (at-if2 .if2 .left) in
-    gives-stop (lending [] (a .parts .now) []) _ Refusal.Room (a .s .at)
+    call-refusesAt Refusal.Room (a .s .at)
     (part-11 (a .job .now) (a .s) (a .parts .now) whole _ (at-number-in .number-in .ensures) yes (st .pre .3) (search needs))
 
 mul-parts : tie.Need-mul-parts

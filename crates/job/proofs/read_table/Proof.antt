@@ -1,10 +1,8 @@
 -- `job::read_table` meets its contract. Assumes nothing.
-use mathlib.Core.List.{[]}
 use Prim.Native.Nat.{_+_, _-_}
 use native.Mathlib.Omega.{arith}
-use Rattle.table.specs.declared.Refusal.{Refusal}
-use Rattle.job.specs.Steps.{lending}
-use Rattle.job.proofs.StepLaws.{gives-as, gives-stop}
+use Rattle.calls.proofs.CallLaws.{call-is, call-refusesAt}
+use Rattle.calls.specs.declared.Refusal.{Refusal}
 use Rattle.job.proofs.ReadLaws.{table-12, table-2, table-cut, table-kept}
 use borrow.Author.Needs.{needs}
 use Rattle.job.proofs.read_table.Statement.{statement}
@@ -17,7 +15,7 @@ returns : tie.Need-returns
 returns c =
     let st = c .before .before .before in
     let a = st .args in
-    gives-stop (lending (a .table .now) [] []) _ Refusal.Field (a .at)
+    call-refusesAt Refusal.Field (a .at)
     (table-12 (a .job .now) (a .at) (a .n) (a .table .now) (search needs))
 
 table-bytes-requires : tie.Need-table-bytes-requires
@@ -30,14 +28,14 @@ returns-2 : tie.Need-returns-2
 returns-2 c =
     let st = c .before .before .before .before .before .before in
     let a = st .args in
-    gives-stop (lending (a .table .now) [] []) _ Refusal.Length (a .at)
+    call-refusesAt Refusal.Length (a .at)
     (table-2 (a .job .now) (a .at) (a .n) (a .table .now) (search needs) (λ e. search needs))
 
 returns-3 : tie.Need-returns-3
 returns-3 c =
     let st = c .before .before .before .before .before .before .before in
     let a = st .args in
-    gives-stop (lending (a .table .now) [] []) _ Refusal.Field (a .at)
+    call-refusesAt Refusal.Field (a .at)
     (table-cut (a .job .now) (a .at) (a .n) (a .table .now) (search needs) (search needs) (search needs))
 
 add-from : tie.Need-add-from
@@ -69,7 +67,7 @@ returns-4 c =
     let a = st .args in
     let l = at-table-bytes .table-bytes .result in
     let from = a .at + 3 in
-    gives-as (table-kept (a .job .now) (a .at) (a .n) (a .table .now) (search needs) (search needs) (search needs)
+    call-is (table-kept (a .job .now) (a .at) (a .n) (a .table .now) (search needs) (search needs) (search needs)
     (from + l - from) (omega (arith, at-table-bytes .table-bytes .ensures)))
     (at-keep-table .keep-table .ensures)
 

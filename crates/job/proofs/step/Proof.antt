@@ -1,9 +1,9 @@
 -- `job::step` meets its contract. Assumes nothing.
 use mathlib.Core.Path.{sym, ap, _∙_}
-use Rattle.table.specs.declared.Refusal.{Refusal}
-use Rattle.fits.specs.Bytes.{fittedSays}
+use Rattle.calls.proofs.CallLaws.{call-is, call-refusesAt}
+use Rattle.calls.specs.declared.Refusal.{Refusal}
+use Rattle.fits.specs.Entries.{fittedSays}
 use Rattle.job.specs.Steps.{lending}
-use Rattle.job.proofs.StepLaws.{gives-as, gives-stop}
 use Rattle.job.proofs.StateLaws.{held-of, step-13, step-refused, step-next}
 use borrow.Author.Needs.{needs}
 use Rattle.job.proofs.step.Statement.{statement}
@@ -14,7 +14,7 @@ returns c =
     let st = c .before .before .before .before .before in
     let a = st .args in
     let m = lending (a .table .now) (a .parts .now) (a .out .now) in
-    gives-stop m _ Refusal.Long 0 (step-13 (a .job .now) (a .s) m (c .if1 .taken))
+    call-refusesAt Refusal.Long 0 (step-13 (a .job .now) (a .s) m (c .if1 .taken))
 
 state-right-requires : tie.Need-state-right-requires
 state-right-requires c κs = search needs
@@ -51,7 +51,7 @@ returns-2 c =
     let a = st .args in
     let m = lending (a .table .now) (a .parts .now) (a .out .now) in
     let no = sym (at-state-right .state-right .ensures) ∙ ap fittedSays (at-fit .fit .given .1) in
-    gives-stop m _ _ (a .s .at) (step-refused (a .job .now) (a .s) m (at-if1 .if1 .left) _ no)
+    call-refusesAt _ (a .s .at) (step-refused (a .job .now) (a .s) m (at-if1 .if1 .left) _ no)
 
 same-length-3 : tie.Need-same-length-3
 same-length-3 c = search needs
@@ -72,7 +72,7 @@ returns-3 c =
     let a = st .args in
     let m = lending (a .table .now) (a .parts .now) (a .out .now) in
     let yes = sym (at-state-right .state-right .ensures) ∙ ap fittedSays (at-enum-told .enum-told .given .1) in
-    gives-as (step-next (a .job .now) (a .s) m (at-if1 .if1 .left) yes) (at-read-next .read-next .ensures)
+    call-is (step-next (a .job .now) (a .s) m (at-if1 .if1 .left) yes) (at-read-next .read-next .ensures)
 
 pub step-spec : {M : Type 1} → statement M
 step-spec =

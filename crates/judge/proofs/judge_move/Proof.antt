@@ -1,59 +1,92 @@
 -- `judge::judge_move` meets its contract. Assumes nothing.
-use Rattle.tree.specs.Tree.{rows}
-use Rattle.taxa.specs.Most.{most}
-use lib.ListN.{length-replicate}
 use Prim.Native.Nat.{ℕ}
 use mathlib.Core.Path.{refl, sym}
-use Rattle.sides.proofs.LookLaws.{found-tree-is, found-refused}
-use Rattle.fits.specs.Bytes.{moveOf}
-use Rattle.judge.proofs.SaidLaws.{judges-no-tree}
+use lib.ListN.{length-replicate}
+use Rattle.taxa.specs.Most.{most}
+use Rattle.tree.specs.Tree.{rows}
+use Rattle.tree.specs.Refusals.{partitionsChecks}
+use Rattle.door.proofs.DoorLaws.{door-opens, opened-ready}
+use Rattle.judge.proofs.SaidLaws.{judges-refused, judges-plan}
 use borrow.Author.Needs.{needs}
 use Rattle.judge.proofs.judge_move.Statement.{statement}
 use Rattle.judge.proofs.judge_move.Tie as tie
 
-look-requires : tie.Need-look-requires
-look-requires c κs =
-    (refl, length-replicate {A = ℕ} (rows most) 0)
+parts-fit-requires : tie.Need-parts-fit-requires
+parts-fit-requires c κs = search needs
 
-enum-known-answer : tie.Need-enum-known-answer
-enum-known-answer c = search needs
+enter-requires : tie.Need-enter-requires
+enter-requires c κs = (refl, length-replicate {A = ℕ} (rows most) 0)
 
-enum-told : tie.Need-enum-told
-enum-told c = search needs
+enum-known-entry : tie.Need-enum-known-entry
+enum-known-entry c = search needs
 
-slice-aggregate-judge-tree : tie.Need-slice-aggregate-judge-tree
-slice-aggregate-judge-tree c =
-    sym (found-tree-is (c .before .before .before .before .before .before .before .before .before .args .n) (c .before .before .before .before .before .before .before .before .before .args .t .now) _ _ _ (c .before .before .before .look .ensures) (c .before .enum-told .given .1) .1 .room)
+enum-known-entry-2 : tie.Need-enum-known-entry-2
+enum-known-entry-2 c = search needs
 
-slice-aggregate-judge-tree-2 : tie.Need-slice-aggregate-judge-tree-2
-slice-aggregate-judge-tree-2 c =
-    sym (found-tree-is (c .before .before .before .before .before .before .before .before .before .before .args .n) (c .before .before .before .before .before .before .before .before .before .before .args .t .now) _ _ _ (c .before .before .before .before .look .ensures) (c .before .before .enum-told .given .1) .2 .room)
+slice-aggregate-judge-plan : tie.Need-slice-aggregate-judge-plan
+slice-aggregate-judge-plan c =
+    let at-entry2 = c .before .before in
+    let at-enter = at-entry2 .before .before in
+    let at-parts-fit = at-enter .before .before .before in
+    let st = at-parts-fit .before .before .before .before in
+    let a = st .args in
+    let o = door-opens (partitionsChecks (a .n) (a .ys .now)) (at-parts-fit .parts-fit .ensures) (at-enter .enter .ensures) (at-entry2 .entry2 .given .1) in
+    sym (o .looked .rows .room)
 
-judge-tree-requires : tie.Need-judge-tree-requires
-judge-tree-requires c κs =
-    found-tree-is (c .before .before .before .before .before .before .before .before .before .before .before .args .n) (c .before .before .before .before .before .before .before .before .before .before .before .args .t .now) _ _ _ (c .before .before .before .before .before .look .ensures) (c .before .before .before .enum-told .given .1)
+slice-aggregate-judge-plan-2 : tie.Need-slice-aggregate-judge-plan-2
+slice-aggregate-judge-plan-2 c =
+    let at-entry2 = c .before .before .before in
+    let at-enter = at-entry2 .before .before in
+    let at-parts-fit = at-enter .before .before .before in
+    let st = at-parts-fit .before .before .before .before in
+    let a = st .args in
+    let o = door-opens (partitionsChecks (a .n) (a .ys .now)) (at-parts-fit .parts-fit .ensures) (at-enter .enter .ensures) (at-entry2 .entry2 .given .1) in
+    sym (o .looked .sides .room)
+
+judge-plan-requires : tie.Need-judge-plan-requires
+judge-plan-requires c κs =
+    let at-entry2 = c .before .before .before .before in
+    let at-enter = at-entry2 .before .before in
+    let at-parts-fit = at-enter .before .before .before in
+    let st = at-parts-fit .before .before .before .before in
+    let a = st .args in
+    let o = door-opens (partitionsChecks (a .n) (a .ys .now)) (at-parts-fit .parts-fit .ensures) (at-enter .enter .ensures) (at-entry2 .entry2 .given .1) in
+    (opened-ready o, o .parts)
 
 returns : tie.Need-returns
 returns c =
-    judges-no-tree (c .before .before .before .before .before .before .before .before .before .args .n) (c .before .before .before .before .before .before .before .before .before .args .t .now) (c .before .before .before .before .before .before .before .before .before .args .ys .now) (moveOf (c .before .before .before .before .before .before .before .before .before .args .m)) (c .before .before .before .before .before .before .before .before .before .args .out .now) _ (found-refused (c .before .before .before .before .before .before .before .before .before .args .n) (c .before .before .before .before .before .before .before .before .before .args .t .now) _ _ _ _ (c .before .before .before .look .ensures) (c .before .answer .given .1))
+    let at-entry = c .before in
+    let at-enter = at-entry .before .before in
+    let at-parts-fit = at-enter .before .before .before in
+    let st = at-parts-fit .before .before .before .before in
+    let a = st .args in
+    judges-refused (a .ys .now) (at-parts-fit .parts-fit .ensures) (at-enter .enter .ensures) (at-entry .entry .given .1)
 
 same-length : tie.Need-same-length
 same-length c = search needs
 
 returns-2 : tie.Need-returns-2
 returns-2 c =
-    c .before .before .judge-tree .ensures
+    let at-judge-plan = c .before .before in
+    let at-entry2 = at-judge-plan .before .before .before .before .before in
+    let at-enter = at-entry2 .before .before in
+    let at-parts-fit = at-enter .before .before .before in
+    let st = at-parts-fit .before .before .before .before in
+    let a = st .args in
+    let o = door-opens (partitionsChecks (a .n) (a .ys .now)) (at-parts-fit .parts-fit .ensures) (at-enter .enter .ensures) (at-entry2 .entry2 .given .1) in
+    judges-plan (a .ys .now) (at-judge-plan .judge-plan .result) o (at-judge-plan .judge-plan .ensures)
 
 pub judge-move-spec : {M : Type 1} → statement M
 judge-move-spec =
     tie.close
     (tie.spec
-    look-requires
-    enum-known-answer
-    enum-told
-    slice-aggregate-judge-tree
-    slice-aggregate-judge-tree-2
-    judge-tree-requires
+    parts-fit-requires
+    enter-requires
+    enum-known-entry
+    enum-known-entry-2
+    slice-aggregate-judge-plan
+    slice-aggregate-judge-plan-2
+    judge-plan-requires
     returns
     same-length
     returns-2)

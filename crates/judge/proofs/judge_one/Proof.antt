@@ -1,55 +1,87 @@
 -- `judge::judge_one` meets its contract. Assumes nothing.
-use Rattle.tree.specs.Tree.{rows}
-use Rattle.taxa.specs.Most.{most}
-use lib.ListN.{length-replicate}
 use Prim.Native.Nat.{ℕ}
 use mathlib.Core.Path.{refl, sym}
-use Rattle.sides.proofs.LookLaws.{found-tree-is, found-refused}
-use Rattle.fits.specs.Bytes.{moveOf}
-use Rattle.judge.proofs.SaidLaws.{one-no-tree}
+use lib.ListN.{length-replicate}
+use Rattle.taxa.specs.Most.{most}
+use Rattle.tree.specs.Tree.{rows}
+use Rattle.tree.specs.Refusals.{partitionChecks}
+use Rattle.door.proofs.DoorLaws.{door-opens, opened-ready}
+use Rattle.judge.proofs.SaidLaws.{one-refused, one-told, one-within}
 use borrow.Author.Needs.{needs}
 use Rattle.judge.proofs.judge_one.Statement.{statement}
 use Rattle.judge.proofs.judge_one.Tie as tie
 
-look-requires : tie.Need-look-requires
-look-requires c κs =
-    (refl, length-replicate {A = ℕ} (rows most) 0)
+part-fits-requires : tie.Need-part-fits-requires
+part-fits-requires c κs = search needs
 
-enum-known-answer : tie.Need-enum-known-answer
-enum-known-answer c = search needs
+enter-requires : tie.Need-enter-requires
+enter-requires c κs = (refl, length-replicate {A = ℕ} (rows most) 0)
 
-enum-told : tie.Need-enum-told
-enum-told c = search needs
+enum-known-entry : tie.Need-enum-known-entry
+enum-known-entry c = search needs
 
-slice-aggregate-one-tree : tie.Need-slice-aggregate-one-tree
-slice-aggregate-one-tree c =
-    sym (found-tree-is (c .before .before .before .before .before .before .before .args .n) (c .before .before .before .before .before .before .before .args .t .now) _ _ _ (c .before .before .before .look .ensures) (c .before .enum-told .given .1) .1 .room)
+enum-known-entry-2 : tie.Need-enum-known-entry-2
+enum-known-entry-2 c = search needs
 
-slice-aggregate-one-tree-2 : tie.Need-slice-aggregate-one-tree-2
-slice-aggregate-one-tree-2 c =
-    sym (found-tree-is (c .before .before .before .before .before .before .before .before .args .n) (c .before .before .before .before .before .before .before .before .args .t .now) _ _ _ (c .before .before .before .before .look .ensures) (c .before .before .enum-told .given .1) .2 .room)
+slice-aggregate-one-groups : tie.Need-slice-aggregate-one-groups
+slice-aggregate-one-groups c =
+    let at-entry2 = c .before .before in
+    let at-enter = at-entry2 .before .before in
+    let at-part-fits = at-enter .before .before .before in
+    let st = at-part-fits .before .before in
+    let a = st .args in
+    let o = door-opens (partitionChecks (a .n) (a .y)) (at-part-fits .part-fits .ensures) (at-enter .enter .ensures) (at-entry2 .entry2 .given .1) in
+    sym (o .looked .rows .room)
 
-one-tree-requires : tie.Need-one-tree-requires
-one-tree-requires c κs =
-    found-tree-is (c .before .before .before .before .before .before .before .before .args .n) (c .before .before .before .before .before .before .before .before .args .t .now) _ _ _ (c .before .before .before .before .look .ensures) (c .before .before .enum-told .given .1)
+slice-aggregate-one-groups-2 : tie.Need-slice-aggregate-one-groups-2
+slice-aggregate-one-groups-2 c =
+    let at-entry2 = c .before .before .before in
+    let at-enter = at-entry2 .before .before in
+    let at-part-fits = at-enter .before .before .before in
+    let st = at-part-fits .before .before in
+    let a = st .args in
+    let o = door-opens (partitionChecks (a .n) (a .y)) (at-part-fits .part-fits .ensures) (at-enter .enter .ensures) (at-entry2 .entry2 .given .1) in
+    sym (o .looked .sides .room)
+
+one-groups-requires : tie.Need-one-groups-requires
+one-groups-requires c κs =
+    let at-entry2 = c .before .before .before in
+    let at-enter = at-entry2 .before .before in
+    let at-part-fits = at-enter .before .before .before in
+    let st = at-part-fits .before .before in
+    let a = st .args in
+    let o = door-opens (partitionChecks (a .n) (a .y)) (at-part-fits .part-fits .ensures) (at-enter .enter .ensures) (at-entry2 .entry2 .given .1) in
+    (opened-ready o, one-within (a .y) o)
 
 returns : tie.Need-returns
 returns c =
-    one-no-tree (c .before .before .before .before .before .before .before .args .n) (c .before .before .before .before .before .before .before .args .t .now) (c .before .before .before .before .before .before .before .args .y) (moveOf (c .before .before .before .before .before .before .before .args .m)) _ (found-refused (c .before .before .before .before .before .before .before .args .n) (c .before .before .before .before .before .before .before .args .t .now) _ _ _ _ (c .before .before .before .look .ensures) (c .before .answer .given .1))
+    let at-entry = c .before in
+    let at-enter = at-entry .before .before in
+    let at-part-fits = at-enter .before .before .before in
+    let st = at-part-fits .before .before in
+    let a = st .args in
+    one-refused (a .y) (at-part-fits .part-fits .ensures) (at-enter .enter .ensures) (at-entry .entry .given .1)
 
 returns-2 : tie.Need-returns-2
 returns-2 c =
-    c .one-tree .ensures
+    let at-entry2 = c .before .before .before .before in
+    let at-enter = at-entry2 .before .before in
+    let at-part-fits = at-enter .before .before .before in
+    let st = at-part-fits .before .before in
+    let a = st .args in
+    let o = door-opens (partitionChecks (a .n) (a .y)) (at-part-fits .part-fits .ensures) (at-enter .enter .ensures) (at-entry2 .entry2 .given .1) in
+    one-told (a .y) o (c .one-groups .ensures)
 
 pub judge-one-spec : {M : Type 1} → statement M
 judge-one-spec =
     tie.close
     (tie.spec
-    look-requires
-    enum-known-answer
-    enum-told
-    slice-aggregate-one-tree
-    slice-aggregate-one-tree-2
-    one-tree-requires
+    part-fits-requires
+    enter-requires
+    enum-known-entry
+    enum-known-entry-2
+    slice-aggregate-one-groups
+    slice-aggregate-one-groups-2
+    one-groups-requires
     returns
     returns-2)

@@ -22,7 +22,7 @@ sub-saved-line c =
     let a = st .args in
     let e = c .before .before .put-verdicts in
     let room = last-room (a .m) (a .ds .now) (a .saved) (a .same) (st .pre .1)
-    (a .out .now) (st .pre .2) _ (e .result) (e .ensures .0) (e .ensures .1) in
+    (a .out .now) (st .pre .2) _ (e .result) (e .ensures .0 .0) (e .ensures .0 .1) in
     omega (arith, room)
 
 part-saved-line-start : tie.Need-part-saved-line-start
@@ -31,7 +31,7 @@ part-saved-line-start c =
     let a = st .args in
     let e = c .before .before .put-verdicts in
     let room = last-room (a .m) (a .ds .now) (a .saved) (a .same) (st .pre .1)
-    (a .out .now) (st .pre .2) _ (e .result) (e .ensures .0) (e .ensures .1) in
+    (a .out .now) (st .pre .2) _ (e .result) (e .ensures .0 .0) (e .ensures .0 .1) in
     omega (arith, room)
 
 part-saved-line-end : tie.Need-part-saved-line-end
@@ -45,7 +45,7 @@ saved-line-requires c κs =
       omega (arith, st .pre .1, zeros-le (a .ds .now), st .pre .0),
       st .pre .0,
       last-part (a .m) (a .ds .now) (a .saved) (a .same) (st .pre .1)
-          (a .out .now) (st .pre .2) _ (e .result) (e .ensures .0) (e .ensures .1),
+          (a .out .now) (st .pre .2) _ (e .result) (e .ensures .0 .0) (e .ensures .0 .1),
     )
 
 add-result : tie.Need-add-result
@@ -55,7 +55,7 @@ add-result c =
     record {
       fits = omega (
         arith,
-        c .before .before .before .before .before .before .put-verdicts .ensures .2,
+        c .before .before .before .before .before .before .put-verdicts .ensures .1,
         c .before .before .saved-line .ensures .0,
         saved-few (a .m) (a .saved) (a .same) (length (a .ds .now))
             (st .fits .m .fits) (st .fits .saved .fits),
@@ -71,7 +71,7 @@ returns c =
     let a = st .args in
     let e = c .before .before .before .before .before .before .put-verdicts in
     last-then (a .m) (a .ds .now) (a .saved) (a .same) (st .pre .1)
-    (a .out .now) (st .pre .2) _ (e .result) (e .ensures .0) (e .ensures .1)
+    (a .out .now) (st .pre .2) _ (e .result) (e .ensures .0 .0) (e .ensures .0 .1)
     (c .before .before .saved-line .ensures)
 
 pub put-lines-spec : {M : Type 1} → statement M

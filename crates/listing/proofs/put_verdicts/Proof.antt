@@ -5,7 +5,8 @@ use mathlib.Core.Path.{_≡_, sym, ap, _∙_}
 use mathlib.Core.List.{List}
 use native.Mathlib.Omega.{arith}
 use lib.ListN.{length, take, getD}
-use Rattle.text.specs.Lines.{verdictLine, putFirst}
+use Rattle.calls.specs.Calls.{atStart}
+use Rattle.text.specs.Lines.{verdictLine}
 use Rattle.listing.specs.Listing.{verdictLines}
 use Rattle.listing.proofs.LineLaws.{verdicts-none, verdicts-next, verdicts-room, verdicts-end, put-room, part-room, put-then, put-whole}
 use borrow.Author.Needs.{needs}
@@ -14,7 +15,7 @@ use Rattle.listing.proofs.put_verdicts.Tie as tie
 
 abbrev Inv-loop : tie.InvT-loop
 Inv-loop m ds out₀ e₀ i₀ out e i =
-    (i ≤ length ds) × (e ≡ length (verdictLines m 1 (take i ds))) × (out ≡ putFirst (verdictLines m 1 (take i ds)) out₀) × (e ≤ 80 * i)
+    (i ≤ length ds) × (e ≡ length (verdictLines m 1 (take i ds))) × (out ≡ atStart (verdictLines m 1 (take i ds)) out₀) × (e ≤ 80 * i)
 
 abbrev μ-loop : tie.MeasureT-loop
 μ-loop m ds out₀ e₀ i₀ out e i =
@@ -22,7 +23,7 @@ abbrev μ-loop : tie.MeasureT-loop
 
 loop-holds : tie.Need-loop-holds Inv-loop μ-loop
 loop-holds c =
-    (omega arith, sym (ap length (verdicts-none (c .before .before .args .m) (c .before .before .args .ds .now))), sym (ap (λ (l : List ℕ). putFirst l (c .before .before .args .out .now)) (verdicts-none (c .before .before .args .m) (c .before .before .args .ds .now))), omega arith)
+    (omega arith, sym (ap length (verdicts-none (c .before .before .args .m) (c .before .before .args .ds .now))), sym (ap (λ (l : List ℕ). atStart l (c .before .before .args .out .now)) (verdicts-none (c .before .before .args .m) (c .before .before .args .ds .now))), omega arith)
 
 add-verdict-line : tie.Need-add-verdict-line Inv-loop μ-loop
 add-verdict-line c = search needs
@@ -63,7 +64,7 @@ loop-again : tie.Need-loop-again Inv-loop μ-loop
 loop-again c =
     let w = put-then (c .before .before .before .before .before .before .before .before .before .args .out .now) (verdictLines (c .before .before .before .before .before .before .before .before .before .args .m) 1 (take (c .before .before .before .before .before .before .loop .i) (c .before .before .before .before .before .before .before .before .before .args .ds .now))) (c .before .before .before .before .before .before .loop .out) (c .before .before .before .before .before .before .loop .e) (c .before .before .before .before .before .before .loop .inv .1) (c .before .before .before .before .before .before .loop .inv .2) (verdictLine (c .before .before .before .before .before .before .before .before .before .args .m) (c .before .before .before .before .before .before .loop .i + 1) (getD (c .before .before .before .before .before .before .before .before .before .args .ds .now) (c .before .before .before .before .before .before .loop .i) 0)) (omega (arith, verdicts-room (c .before .before .before .before .before .before .before .before .before .args .m) (c .before .before .before .before .before .before .before .before .before .args .ds .now) (c .before .before .before .before .before .before .loop .i) (c .before .before .before .before .before .loop-test .taken), c .before .before .before .before .before .before .before .before .before .pre .1)) (c .before .before .verdict-line .ensures) in
     let n = verdicts-next (c .before .before .before .before .before .before .before .before .before .args .m) (c .before .before .before .before .before .before .before .before .before .args .ds .now) (c .before .before .before .before .before .before .loop .i) (c .before .before .before .before .before .loop-test .taken) in
-    (omega (arith, c .before .before .before .before .before .loop-test .taken), w .0 ∙ sym (ap length n), w .1 ∙ sym (ap (λ (l : List ℕ). putFirst l (c .before .before .before .before .before .before .before .before .before .args .out .now)) n), omega (arith, verdict-few (c .before .before .before .before .before .before .before .before .before .args .m) (c .before .before .before .before .before .before .loop .i + 1) (getD (c .before .before .before .before .before .before .before .before .before .args .ds .now) (c .before .before .before .before .before .before .loop .i) 0) (c .before .before .before .before .before .before .before .before .before .fits .m .fits) (omega (arith, c .before .before .before .before .before .loop-test .taken, c .before .before .before .before .before .before .before .before .before .pre .0)) (omega (arith, c .before .before .before .before .shared-slice-known2 .given (c .before .before .before .before .before .before .loop .i))), c .before .before .verdict-line .ensures .0, c .before .before .before .before .before .before .loop .inv .3))
+    (omega (arith, c .before .before .before .before .before .loop-test .taken), w .0 ∙ sym (ap length n), w .1 ∙ sym (ap (λ (l : List ℕ). atStart l (c .before .before .before .before .before .before .before .before .before .args .out .now)) n), omega (arith, verdict-few (c .before .before .before .before .before .before .before .before .before .args .m) (c .before .before .before .before .before .before .loop .i + 1) (getD (c .before .before .before .before .before .before .before .before .before .args .ds .now) (c .before .before .before .before .before .before .loop .i) 0) (c .before .before .before .before .before .before .before .before .before .fits .m .fits) (omega (arith, c .before .before .before .before .before .loop-test .taken, c .before .before .before .before .before .before .before .before .before .pre .0)) (omega (arith, c .before .before .before .before .shared-slice-known2 .given (c .before .before .before .before .before .before .loop .i))), c .before .before .verdict-line .ensures .0, c .before .before .before .before .before .before .loop .inv .3))
 
 same-length : tie.Need-same-length Inv-loop μ-loop
 same-length c =
@@ -74,7 +75,7 @@ returns : tie.Need-returns Inv-loop μ-loop
 returns c =
     let e : c .before .loop .i ≡ length (c .before .before .before .before .args .ds .now) = omega (arith, c .before .loop .inv .0, c .loop-test .left) in
     let n = verdicts-end (c .before .before .before .before .args .m) (c .before .before .before .before .args .ds .now) (c .before .loop .i) e in
-    (c .before .loop .inv .1 ∙ ap length n, c .before .loop .inv .2 ∙ ap (λ (l : List ℕ). putFirst l (c .before .before .before .before .args .out .now)) n, omega (arith, c .before .loop .inv .3, e, c .before .before .before .before .pre .0))
+    ((c .before .loop .inv .1 ∙ ap length n, c .before .loop .inv .2 ∙ ap (λ (l : List ℕ). atStart l (c .before .before .before .before .args .out .now)) n), omega (arith, c .before .loop .inv .3, e, c .before .before .before .before .pre .0))
 
 pub put-verdicts-spec : {M : Type 1} → statement M
 put-verdicts-spec =

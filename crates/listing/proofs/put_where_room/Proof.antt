@@ -5,8 +5,6 @@ use native.Mathlib.Omega.{arith}
 use lib.Dec.{leb}
 use lib.ListN.{length}
 use borrow.Author.Tests.{not-true, not-false, leb-true}
-use Rattle.moves.specs.Moves.{moved}
-use Rattle.fits.specs.Bytes.{moveOf}
 use Rattle.text.proofs.Placing.{back}
 use Rattle.listing.specs.Listing.{linesWith}
 use Rattle.listing.proofs.ListsLaws.{puts-11, puts-done}
@@ -20,86 +18,85 @@ lines-width-requires c κs = search needs
 has-room-requires : tie.Need-has-room-requires
 has-room-requires c κs = search needs
 
-move-where-requires : tie.Need-move-where-requires
-move-where-requires c κs = search needs
-
-same-length : tie.Need-same-length
-same-length c = search needs
-
 returns : tie.Need-returns
 returns c =
-    let st = c .before .before .before .before .before .before .before .before .before .before .before .before in
+    let at-has-room = c .before in
+    let at-lines-width = at-has-room .before in
+    let st = at-lines-width .before .before .before in
     let a = st .args in
-    let b = c .before .before .before .before .before .has-room in
-    let w = c .before .before .before .before .before .before .lines-width in
     let room = length (a .out .now) in
-    puts-11 (linesWith (a .number) (a .ds .now) (a .saved)) (a .t .now)
-    (moved (a .n) (a .t .now) (moveOf (a .m))) (a .out .now) (a .place) (b .result)
-    (b .ensures ∙ ap (λ (z : ℕ). leb (a .place + z) room) (w .ensures))
-    (not-true (b .result) (c .if1 .taken)) _ (c .before .before .before .move-where .ensures)
+    let same = at-has-room .has-room .ensures ∙ ap (λ (z : ℕ). leb (a .place + z) room) (at-lines-width .lines-width .ensures) in
+    puts-11 (linesWith (a .m) (a .ds .now) (a .saved)) (a .place) (a .out .now)
+    (sym same ∙ not-true (at-has-room .has-room .result) (c .if1 .taken))
 
 sub-put-lines : tie.Need-sub-put-lines
 sub-put-lines c =
-    let st = c .before .before .before .before .before .before .before .before .before .before .before .before in
-    let b = c .before .before .before .before .before .has-room in
-    let to = st .args .place + c .before .before .before .before .before .before .lines-width .result in
-    let fits = sym (b .ensures) ∙ not-false (b .result) (c .if1 .left) in
-    omega (arith, leb-true to (length (st .args .out .now)) fits)
+    let at-has-room = c .before in
+    let at-lines-width = at-has-room .before in
+    let st = at-lines-width .before .before .before in
+    let a = st .args in
+    let to = a .place + at-lines-width .lines-width .result in
+    let fits = sym (at-has-room .has-room .ensures) ∙ not-false (at-has-room .has-room .result) (c .if1 .left) in
+    omega (arith, leb-true to (length (a .out .now)) fits)
 
 part-put-lines-start : tie.Need-part-put-lines-start
 part-put-lines-start c =
-    let st = c .before .before .before .before .before .before .before .before .before .before .before .before in
-    let b = c .before .before .before .before .before .has-room in
-    let to = st .args .place + c .before .before .before .before .before .before .lines-width .result in
-    let fits = sym (b .ensures) ∙ not-false (b .result) (c .if1 .left) in
-    omega (arith, leb-true to (length (st .args .out .now)) fits)
+    let at-has-room = c .before in
+    let at-lines-width = at-has-room .before in
+    let st = at-lines-width .before .before .before in
+    let a = st .args in
+    let to = a .place + at-lines-width .lines-width .result in
+    let fits = sym (at-has-room .has-room .ensures) ∙ not-false (at-has-room .has-room .result) (c .if1 .left) in
+    omega (arith, leb-true to (length (a .out .now)) fits)
 
 part-put-lines-end : tie.Need-part-put-lines-end
 part-put-lines-end c = search needs
 
 put-lines-requires : tie.Need-put-lines-requires
 put-lines-requires c κs =
-    let st = c .before .before .before .before .before .before .before .before .before .before .before .before .before in
+    let at-if1 = c .before in
+    let at-has-room = at-if1 .before in
+    let at-lines-width = at-has-room .before in
+    let st = at-lines-width .before .before .before in
     let a = st .args in
-    let b = c .before .before .before .before .before .before .has-room in
-    let w = c .before .before .before .before .before .before .before .lines-width in
-    let ls = linesWith (a .number) (a .ds .now) (a .saved) in
-    let fits = sym (b .ensures) ∙ not-false (b .result) (c .before .if1 .left) in
+    let ls = linesWith (a .m) (a .ds .now) (a .saved) in
+    let to = a .place + at-lines-width .lines-width .result in
+    let fits = sym (at-has-room .has-room .ensures) ∙ not-false (at-has-room .has-room .result) (at-if1 .if1 .left) in
     let h : a .place + length ls ≤ length (a .out .now)
-    = omega (arith, leb-true (a .place + w .result) (length (a .out .now)) fits, w .ensures) in
-    (st .pre .1, st .pre .2, search needs)
+    = omega (arith, leb-true to (length (a .out .now)) fits, at-lines-width .lines-width .ensures) in
+    (st .pre .0, st .pre .1, search needs)
 
-add-t14 : tie.Need-add-t14
-add-t14 c =
-    let st = c .before .before .before .before .before .before .before .before .before .before .before .before .before .before .before .before in
-    let b = c .before .before .before .before .before .before .before .before .before .has-room in
-    let to = st .args .place + c .before .before .before .before .before .before .before .before .before .before .lines-width .result in
-    let fits = sym (b .ensures) ∙ not-false (b .result) (c .before .before .before .before .if1 .left) in
-    let short = st .good .1 .1 .1 .1 .1 .1 .1 .1 .1 .0 .0 in
-    record { fits = omega (arith, leb-true to (length (st .args .out .now)) fits, short) }
+add-t9 : tie.Need-add-t9
+add-t9 c =
+    let at-if1 = c .before .before .before .before in
+    let at-has-room = at-if1 .before in
+    let at-lines-width = at-has-room .before in
+    let st = at-lines-width .before .before .before in
+    let a = st .args in
+    let to = a .place + at-lines-width .lines-width .result in
+    let fits = sym (at-has-room .has-room .ensures) ∙ not-false (at-has-room .has-room .result) (at-if1 .if1 .left) in
+    record { fits = omega (arith, leb-true to (length (a .out .now)) fits, st .good .1 .1 .1 .1 .0 .0) }
 
-same-length-2 : tie.Need-same-length-2
-same-length-2 c = search needs
-
-same-length-3 : tie.Need-same-length-3
-same-length-3 c = search needs
+same-length : tie.Need-same-length
+same-length c = search needs
 
 returns-2 : tie.Need-returns-2
 returns-2 c =
-    let st = c .before .before .before .before .before .before .before .before .before .before .before .before .before .before .before .before in
+    let at-put-lines = c .before .before in
+    let at-if1 = at-put-lines .before .before in
+    let at-has-room = at-if1 .before in
+    let at-lines-width = at-has-room .before in
+    let st = at-lines-width .before .before .before in
     let a = st .args in
-    let b = c .before .before .before .before .before .before .before .before .before .has-room in
-    let w = c .before .before .before .before .before .before .before .before .before .before .lines-width in
+    let ls = linesWith (a .m) (a .ds .now) (a .saved) in
     let room = length (a .out .now) in
-    let ls = linesWith (a .number) (a .ds .now) (a .saved) in
-    let fits = not-false (b .result) (c .before .before .before .before .if1 .left) in
-    let h : a .place + length ls ≤ room
-    = omega (arith, leb-true (a .place + w .result) room (sym (b .ensures) ∙ fits), w .ensures) in
-    puts-done ls (a .t .now) (moved (a .n) (a .t .now) (moveOf (a .m)))
-    (a .out .now) (a .place) (b .result)
-    (b .ensures ∙ ap (λ (z : ℕ). leb (a .place + z) room) (w .ensures)) fits _ _ _
-    (ap (λ (z : ℕ). a .place + z) (w .ensures)) (c .before .before .before .before .before .before .before .move-where .ensures)
-    (back (a .out .now) (a .place) ls h (c .before .before .put-lines .ensures) .1)
+    let to = a .place + at-lines-width .lines-width .result in
+    let same = at-has-room .has-room .ensures ∙ ap (λ (z : ℕ). leb (a .place + z) room) (at-lines-width .lines-width .ensures) in
+    let fits = sym same ∙ not-false (at-has-room .has-room .result) (at-if1 .if1 .left) in
+    let h = leb-true (a .place + length ls) room fits in
+    puts-done ls (a .place) (a .out .now) fits
+    (ap (λ (z : ℕ). a .place + z) (at-lines-width .lines-width .ensures))
+    (back (a .out .now) (a .place) ls h (at-put-lines .put-lines .ensures) .1)
 
 pub put-where-room-spec : {M : Type 1} → statement M
 put-where-room-spec =
@@ -107,14 +104,11 @@ put-where-room-spec =
     (tie.spec
     lines-width-requires
     has-room-requires
-    move-where-requires
-    same-length
     returns
     sub-put-lines
     part-put-lines-start
     part-put-lines-end
     put-lines-requires
-    add-t14
-    same-length-2
-    same-length-3
+    add-t9
+    same-length
     returns-2)

@@ -37,8 +37,11 @@ same-length c = search needs
 
 returns : tie.Need-returns
 returns c =
-    let st = c .before .before .before .before .before .before in
-    there (st .args .x) (st .args .out .now) (st .args .len) (st .pre .0) _ (c .before .before .before .place .ensures) (c .before .before .if1 .taken) (c .if2 .taken)
+    let at-if1 = c .before .before in
+    let at-place = at-if1 .before in
+    let st = at-place .before .before .before in
+    let a = st .args in
+    there (a .x) (a .out .now) (a .len) (st .pre .0) _ (at-place .place .ensures) (at-if1 .if1 .taken) (c .if2 .taken)
 
 open-gap-requires : tie.Need-open-gap-requires
 open-gap-requires c κs = let w = opens (c .before) in (w .low, w .room)
@@ -57,8 +60,11 @@ same-length-2 c = search needs
 
 returns-2 : tie.Need-returns-2
 returns-2 c =
+    let at-place = c .before .before .before .before .before in
+    let st = at-place .before .before .before in
     let w = opens (c .before .before .before .before) in
-    (w .count, ap (λ (l : List ℕ). set l (c .before .before .before .before .before .place .result) (c .before .before .before .before .before .before .before .before .args .x)) (c .before .before .open-gap .ensures) ∙ w .gives)
+    let put = ap (λ (l : List ℕ). set l (at-place .place .result) (st .args .x)) (c .before .before .open-gap .ensures) in
+    record { count = w .count; memory = put ∙ w .gives }
 
 pub insert-spec : {M : Type 1} → statement M
 insert-spec =

@@ -9,21 +9,32 @@ use Rattle.rewrite.proofs.move_end.Tie as tie
 
 others-requires : tie.Need-others-requires
 others-requires c κs =
-    (p-lt (c .before .before .args .n) (c .before .before .args .t .now) (c .before .before .args .near .now) (c .before .before .args .p) (c .before .before .args .a) (c .before .before .args .b) (c .before .before .pre), c .before .before .pre .room)
+    let st = c .before .before in
+    (p-lt (st .pre), st .pre .room)
 
 put-end-requires : tie.Need-put-end-requires
 put-end-requires c κs =
-    let K = two-rows (c .before .before .before .before .args .n) (c .before .before .before .before .args .t .now) (c .before .before .before .before .args .near .now) (c .before .before .before .before .args .p) (c .before .before .before .before .args .a) (c .before .before .before .before .args .b) (c .before .before .before .before .pre) (c .before .others .result .f) (c .before .others .result .g) (c .before .others .ensures .0) (c .before .others .ensures .1) in
-    let len = c .before .before .before .before .pre .good .valid .len in
-    (omega (arith, K .f-lt), omega (arith, K .g-lt), omega (arith, c .before .before .before .before .pre .b-lt), omega (arith, p-lt (c .before .before .before .before .args .n) (c .before .before .before .before .args .t .now) (c .before .before .before .before .args .near .now) (c .before .before .before .before .args .p) (c .before .before .before .before .args .a) (c .before .before .before .before .args .b) (c .before .before .before .before .pre)))
+    let st = c .before .before .before .before in
+    let K = two-rows (st .pre) (c .before .others .ensures) in
+    let len = st .pre .good .valid .len in (
+      omega (arith, K .f-lt),
+      omega (arith, K .g-lt),
+      omega (arith, st .pre .b-lt),
+      omega (arith, p-lt (st .pre)),
+    )
 
 same-length : tie.Need-same-length
 same-length c = search needs
 
 returns : tie.Need-returns
 returns c =
-    let K = two-rows (c .before .before .before .before .before .before .before .args .n) (c .before .before .before .before .before .before .before .args .t .now) (c .before .before .before .before .before .before .before .args .near .now) (c .before .before .before .before .before .before .before .args .p) (c .before .before .before .before .before .before .before .args .a) (c .before .before .before .before .before .before .before .args .b) (c .before .before .before .before .before .before .before .pre) (c .before .before .before .before .others .result .f) (c .before .before .before .before .others .result .g) (c .before .before .before .before .others .ensures .0) (c .before .before .before .before .others .ensures .1) in
-    c .before .before .put-end .ensures ∙ sym (moveEnd-eq (c .before .before .before .before .before .before .before .args .n) (c .before .before .before .before .before .before .before .args .t .now) (c .before .before .before .before .before .before .before .args .p) (c .before .before .before .before .before .before .before .args .a) (c .before .before .before .before .before .before .before .args .b) (c .before .before .before .before .others .result .f) (c .before .before .before .before .others .result .g) (K .list))
+    let at-others = c .before .before .before .before in
+    let st = at-others .before .before .before in
+    let a = st .args in
+    let o = at-others .others in
+    let K = two-rows (st .pre) (o .ensures) in
+    c .before .before .put-end .ensures
+    ∙ sym (moveEnd-eq (a .n) (a .t .now) (a .p) (a .a) (a .b) (o .result .f) (o .result .g) (K .list))
 
 pub move-end-spec : {M : Type 1} → statement M
 move-end-spec = tie.close (tie.spec others-requires put-end-requires same-length returns)

@@ -5,7 +5,8 @@ use native.Mathlib.Omega.{arith}
 use lib.Dec.{eqb}
 use lib.ListN.{length, take}
 use Rattle.taxa.proofs.Sizes.{tally-one}
-use Rattle.rules.specs.Each.{byGroups, Judges}
+use Rattle.moves.specs.Plans.{byGroups}
+use Rattle.rules.specs.Each.{Judges}
 use Rattle.rules.proofs.Judging.{judge-none, judge-few, judge-end, judge-length, judge-next}
 use borrow.Author.Needs.{needs}
 use Rattle.rules.proofs.distance_each.Statement.{statement}

@@ -1,8 +1,9 @@
 -- `sides::walk` meets its contract. Assumes nothing.
 use mathlib.Core.Path.{refl}
 use native.Mathlib.Omega.{arith}
-use Rattle.sides.proofs.MarkLaws.{left, left-set, left-spread, mark-yes, mark-not}
-use Rattle.sides.proofs.WalkLaws.{v-lt, walked-marked, walked-taxon, first-room, second-room, walks-first, walks-second, walked-inner}
+use Rattle.sides.proofs.MarkLaws.{left, left-spread, mark-yes, mark-not}
+use Rattle.sides.proofs.WalkLaws.{v-lt, left-falls, notes, walked-marked, walked-taxon, first-room, second-room}
+use Rattle.sides.proofs.WalkLaws.{walks-first, walks-second, walked-inner}
 use Prim.Native.Nat.{ℕ, _<_}
 use borrow.Fn.Kinds.{In}
 use borrow.Fn.PlainCycle.{Measures, is, falls, and}
@@ -32,58 +33,110 @@ claims t = (only-reads.Asked, only-reads.Learnt, note-reads.Asked, note-reads.Le
 
 walk-element-copy-out-if1 : (t : ℕ) → walk-lts.Need-element-copy-out-if1 (claims t) (walk-at t) walk.Post
 walk-element-copy-out-if1 t c =
-    omega (arith, v-lt (c .before .args .n) (c .before .args .t .now) (c .before .args .near .now) (c .before .args .marks .now) (c .before .args .sides .now) (c .before .args .e) (c .before .args .v) (c .before .pre .1), c .before .pre .1 .rowed .ordered .few)
+    let W = c .before .pre .1 in
+    omega (arith, v-lt W, W .rowed .ordered .few)
 
 walk-returns : (t : ℕ) → walk-lts.Need-returns (claims t) (walk-at t) walk.Post
 walk-returns t c =
-    walked-marked (c .before .before .before .args .n) (c .before .before .before .args .t .now) (c .before .before .before .args .near .now) (c .before .before .before .args .marks .now) (c .before .before .before .args .sides .now) (c .before .before .before .args .e) (c .before .before .before .args .v) (c .before .before .before .pre .1) (mark-yes (c .before .before .before .args .marks .now) (c .before .before .before .args .v) (c .if1 .taken))
+    let st = c .before .before .before in
+    walked-marked (st .pre .1) (mark-yes (st .args .marks .now) (st .args .v) (c .if1 .taken))
 
 walk-element-write-marks : (t : ℕ) → walk-lts.Need-element-write-marks (claims t) (walk-at t) walk.Post
 walk-element-write-marks t c =
-    omega (arith, v-lt (c .before .before .before .args .n) (c .before .before .before .args .t .now) (c .before .before .before .args .near .now) (c .before .before .before .args .marks .now) (c .before .before .before .args .sides .now) (c .before .before .before .args .e) (c .before .before .before .args .v) (c .before .before .before .pre .1), c .before .before .before .pre .1 .rowed .ordered .few)
+    let W = c .before .before .before .pre .1 in
+    omega (arith, v-lt W, W .rowed .ordered .few)
 
 walk-only-requires : (t : ℕ) → walk-lts.Need-only-requires (claims t) (walk-at t) walk.Post
 walk-only-requires t c κs =
-    omega (arith, c .if2 .taken, c .before .before .before .before .pre .1 .rowed .ordered .few)
+    let st = c .before .before .before .before in
+    omega (arith, c .if2 .taken, st .pre .1 .rowed .ordered .few)
 
 walk-note-requires : (t : ℕ) → walk-lts.Need-note-requires (claims t) (walk-at t) walk.Post
 walk-note-requires t c κs =
-    (c .before .before .before .before .before .before .pre .1 .rowed .ordered .big, c .before .before .before .before .before .before .pre .1 .rowed .ordered .few, omega (arith, c .before .before .before .before .before .before .pre .1 .row, c .before .before .before .before .before .before .pre .1 .rowed .ordered .len), omega (arith, c .before .before .before .before .before .before .pre .1 .row, c .before .before .before .before .before .before .pre .1 .rowed .ordered .few))
+    let st = c .before .before .before .before .before .before in
+    notes (st .pre .1)
 
 walk-returns-2 : (t : ℕ) → walk-lts.Need-returns-2 (claims t) (walk-at t) walk.Post
 walk-returns-2 t c =
-    walked-taxon (c .before .before .before .before .before .before .before .args .n) (c .before .before .before .before .before .before .before .args .t .now) (c .before .before .before .before .before .before .before .args .near .now) (c .before .before .before .before .before .before .before .args .marks .now) (c .before .before .before .before .before .before .before .args .sides .now) (c .before .before .before .before .before .before .before .args .e) (c .before .before .before .before .before .before .before .args .v) (c .before .before .before .before .before .before .before .pre .1) (mark-not (c .before .before .before .before .before .before .before .args .marks .now) (c .before .before .before .before .before .before .before .args .v) (c .before .before .before .before .if1 .left)) _ _ (c .before .before .before .if2 .taken) (c .before .before .only .ensures) (c .note .ensures)
+    let at-only = c .before .before in
+    let at-if2 = at-only .before in
+    let at-if1 = at-if2 .before in
+    let st = at-if1 .before .before .before in
+    let unmarked = mark-not (st .args .marks .now) (st .args .v) (at-if1 .if1 .left) in
+    walked-taxon (st .pre .1) unmarked (at-if2 .if2 .taken) (at-only .only .ensures) (c .note .ensures)
 
 walk-others-requires : (t : ℕ) → walk-lts.Need-others-requires (claims t) (walk-at t) walk.Post
 walk-others-requires t c κs =
-    (omega (arith, v-lt (c .before .before .before .before .before .args .n) (c .before .before .before .before .before .args .t .now) (c .before .before .before .before .before .args .near .now) (c .before .before .before .before .before .args .marks .now) (c .before .before .before .before .before .args .sides .now) (c .before .before .before .before .before .args .e) (c .before .before .before .before .before .args .v) (c .before .before .before .before .before .pre .1), c .before .before .before .before .before .pre .1 .rowed .ordered .few), c .before .before .before .before .before .pre .1 .near .room)
+    let W = c .before .before .before .before .before .pre .1 in
+    (omega (arith, v-lt W, W .rowed .ordered .few), W .near .room)
 
 walk-far-requires : (t : ℕ) → walk-lts.Need-far-requires (claims t) (walk-at t) walk.Post
 walk-far-requires t c κs =
-    first-room (c .before .before .before .before .before .before .args .n) (c .before .before .before .before .before .before .args .t .now) (c .before .before .before .before .before .before .args .near .now) (c .before .before .before .before .before .before .args .marks .now) (c .before .before .before .before .before .before .args .sides .now) (c .before .before .before .before .before .before .args .e) (c .before .before .before .before .before .before .args .v) (c .before .before .before .before .before .before .pre .1) (mark-not (c .before .before .before .before .before .before .args .marks .now) (c .before .before .before .before .before .before .args .v) (c .before .before .before .if1 .left)) (c .others .result .f) (c .others .result .g) _ _ (c .before .before .if2 .left) (c .others .ensures .0) (c .others .ensures .1) refl refl
+    let at-if2 = c .before .before in
+    let at-if1 = at-if2 .before in
+    let st = at-if1 .before .before .before in
+    let unmarked = mark-not (st .args .marks .now) (st .args .v) (at-if1 .if1 .left) in
+    first-room (st .pre .1) unmarked (at-if2 .if2 .left) (c .others .ensures)
 
 walk-walk-requires : (t : ℕ) → walk-lts.Need-walk-requires (claims t) (walk-at t) walk.Post
 walk-walk-requires t c κs =
-    let fall = left-set (c .before .before .before .before .before .before .before .before .before .args .marks .now) (c .before .before .before .before .before .before .before .before .before .args .v) (c .before .before .before .before .before .before .before .before .before .pre .1 .for-marks) (omega (arith, v-lt (c .before .before .before .before .before .before .before .before .before .args .n) (c .before .before .before .before .before .before .before .before .before .args .t .now) (c .before .before .before .before .before .before .before .before .before .args .near .now) (c .before .before .before .before .before .before .before .before .before .args .marks .now) (c .before .before .before .before .before .before .before .before .before .args .sides .now) (c .before .before .before .before .before .before .before .before .before .args .e) (c .before .before .before .before .before .before .before .before .before .args .v) (c .before .before .before .before .before .before .before .before .before .pre .1), c .before .before .before .before .before .before .before .before .before .pre .1 .rowed .ordered .few)) (mark-not (c .before .before .before .before .before .before .before .before .before .args .marks .now) (c .before .before .before .before .before .before .before .before .before .args .v) (c .before .before .before .before .before .before .if1 .left)) in
-    (omega (arith, fall, c .before .before .before .before .before .before .before .before .before .pre .0), walks-first (c .before .before .before .before .before .before .before .before .before .args .n) (c .before .before .before .before .before .before .before .before .before .args .t .now) (c .before .before .before .before .before .before .before .before .before .args .near .now) (c .before .before .before .before .before .before .before .before .before .args .marks .now) (c .before .before .before .before .before .before .before .before .before .args .sides .now) (c .before .before .before .before .before .before .before .before .before .args .e) (c .before .before .before .before .before .before .before .before .before .args .v) (c .before .before .before .before .before .before .before .before .before .pre .1) (mark-not (c .before .before .before .before .before .before .before .before .before .args .marks .now) (c .before .before .before .before .before .before .before .before .before .args .v) (c .before .before .before .before .before .before .if1 .left)) (c .before .before .before .others .result .f) (c .before .before .before .others .result .g) (c .before .before .far .result) _ (c .before .before .before .before .before .if2 .left) (c .before .before .before .others .ensures .0) (c .before .before .before .others .ensures .1) (c .before .before .far .ensures) refl)
+    let at-far = c .before .before in
+    let at-others = at-far .before in
+    let at-if2 = at-others .before .before in
+    let at-if1 = at-if2 .before in
+    let st = at-if1 .before .before .before in
+    let W = st .pre .1 in
+    let unmarked = mark-not (st .args .marks .now) (st .args .v) (at-if1 .if1 .left) in
+    let fall = left-falls W unmarked in
+    let on = walks-first W unmarked (at-if2 .if2 .left) (at-others .others .ensures) (at-far .far .ensures) refl in
+    (omega (arith, fall, st .pre .0), on)
 
 walk-far-requires-2 : (t : ℕ) → walk-lts.Need-far-requires-2 (claims t) (walk-at t) walk.Post
 walk-far-requires-2 t c κs =
-    second-room (c .before .before .before .before .before .before .before .before .before .before .args .n) (c .before .before .before .before .before .before .before .before .before .before .args .t .now) (c .before .before .before .before .before .before .before .before .before .before .args .near .now) (c .before .before .before .before .before .before .before .before .before .before .args .marks .now) (c .before .before .before .before .before .before .before .before .before .before .args .sides .now) (c .before .before .before .before .before .before .before .before .before .before .args .e) (c .before .before .before .before .before .before .before .before .before .before .args .v) (c .before .before .before .before .before .before .before .before .before .before .pre .1) (mark-not (c .before .before .before .before .before .before .before .before .before .before .args .marks .now) (c .before .before .before .before .before .before .before .before .before .before .args .v) (c .before .before .before .before .before .before .before .if1 .left)) (c .before .before .before .before .others .result .f) (c .before .before .before .before .others .result .g) _ _ (c .before .before .before .before .before .before .if2 .left) (c .before .before .before .before .others .ensures .0) (c .before .before .before .before .others .ensures .1) refl refl
+    let at-others = c .before .before .before .before in
+    let at-if2 = at-others .before .before in
+    let at-if1 = at-if2 .before in
+    let st = at-if1 .before .before .before in
+    let unmarked = mark-not (st .args .marks .now) (st .args .v) (at-if1 .if1 .left) in
+    second-room (st .pre .1) unmarked (at-if2 .if2 .left) (at-others .others .ensures)
 
 walk-walk-requires-2 : (t : ℕ) → walk-lts.Need-walk-requires-2 (claims t) (walk-at t) walk.Post
 walk-walk-requires-2 t c κs =
-    let fall = left-set (c .before .before .before .before .before .before .before .before .before .before .before .before .before .args .marks .now) (c .before .before .before .before .before .before .before .before .before .before .before .before .before .args .v) (c .before .before .before .before .before .before .before .before .before .before .before .before .before .pre .1 .for-marks) (omega (arith, v-lt (c .before .before .before .before .before .before .before .before .before .before .before .before .before .args .n) (c .before .before .before .before .before .before .before .before .before .before .before .before .before .args .t .now) (c .before .before .before .before .before .before .before .before .before .before .before .before .before .args .near .now) (c .before .before .before .before .before .before .before .before .before .before .before .before .before .args .marks .now) (c .before .before .before .before .before .before .before .before .before .before .before .before .before .args .sides .now) (c .before .before .before .before .before .before .before .before .before .before .before .before .before .args .e) (c .before .before .before .before .before .before .before .before .before .before .before .before .before .args .v) (c .before .before .before .before .before .before .before .before .before .before .before .before .before .pre .1), c .before .before .before .before .before .before .before .before .before .before .before .before .before .pre .1 .rowed .ordered .few)) (mark-not (c .before .before .before .before .before .before .before .before .before .before .before .before .before .args .marks .now) (c .before .before .before .before .before .before .before .before .before .before .before .before .before .args .v) (c .before .before .before .before .before .before .before .before .before .before .if1 .left)) in
-    let less = left-spread _ _ _ _ (c .before .before .before .walk .ensures .visited .spread) in
-    (omega (arith, fall, less, c .before .before .before .before .before .before .before .before .before .before .before .before .before .pre .0), walks-second (c .before .before .before .before .before .before .before .before .before .before .before .before .before .args .n) (c .before .before .before .before .before .before .before .before .before .before .before .before .before .args .t .now) (c .before .before .before .before .before .before .before .before .before .before .before .before .before .args .near .now) (c .before .before .before .before .before .before .before .before .before .before .before .before .before .args .marks .now) (c .before .before .before .before .before .before .before .before .before .before .before .before .before .args .sides .now) (c .before .before .before .before .before .before .before .before .before .before .before .before .before .args .e) (c .before .before .before .before .before .before .before .before .before .before .before .before .before .args .v) (c .before .before .before .before .before .before .before .before .before .before .before .before .before .pre .1) (mark-not (c .before .before .before .before .before .before .before .before .before .before .before .before .before .args .marks .now) (c .before .before .before .before .before .before .before .before .before .before .before .before .before .args .v) (c .before .before .before .before .before .before .before .before .before .before .if1 .left)) (c .before .before .before .before .before .before .before .others .result .f) (c .before .before .before .before .before .before .before .others .result .g) (c .before .before .before .before .before .before .far .result) (c .before .before .far2 .result) (c .before .before .before .before .before .before .before .before .before .if2 .left) (c .before .before .before .before .before .before .before .others .ensures .0) (c .before .before .before .before .before .before .before .others .ensures .1) (c .before .before .before .before .before .before .far .ensures) (c .before .before .far2 .ensures) _ _ _ (c .before .before .before .walk .ensures))
+    let at-far2 = c .before .before in
+    let at-walk = at-far2 .before in
+    let at-far = at-walk .before .before .before in
+    let at-others = at-far .before in
+    let at-if2 = at-others .before .before in
+    let at-if1 = at-if2 .before in
+    let st = at-if1 .before .before .before in
+    let W = st .pre .1 in
+    let first = at-walk .walk .ensures in
+    let unmarked = mark-not (st .args .marks .now) (st .args .v) (at-if1 .if1 .left) in
+    let fall = left-falls W unmarked in
+    let less = left-spread _ _ _ _ (first .visited .spread) in
+    let on = walks-second W unmarked (at-if2 .if2 .left) (at-others .others .ensures) (at-far .far .ensures)
+    (at-far2 .far2 .ensures) first in
+    (omega (arith, fall, less, st .pre .0), on)
 
 walk-note-requires-2 : (t : ℕ) → walk-lts.Need-note-requires-2 (claims t) (walk-at t) walk.Post
 walk-note-requires-2 t c κs =
-    (c .before .before .before .before .before .before .before .before .before .before .before .before .before .before .before .pre .1 .rowed .ordered .big, c .before .before .before .before .before .before .before .before .before .before .before .before .before .before .before .pre .1 .rowed .ordered .few, omega (arith, c .before .before .before .before .before .before .before .before .before .before .before .before .before .before .before .pre .1 .row, c .before .before .before .before .before .before .before .before .before .before .before .before .before .before .before .pre .1 .rowed .ordered .len), omega (arith, c .before .before .before .before .before .before .before .before .before .before .before .before .before .before .before .pre .1 .row, c .before .before .before .before .before .before .before .before .before .before .before .before .before .before .before .pre .1 .rowed .ordered .few))
+    let at-others = c .before .before .before .before .before .before .before .before .before .before in
+    let st = at-others .before .before .before .before .before in
+    notes (st .pre .1)
 
 walk-returns-3 : (t : ℕ) → walk-lts.Need-returns-3 (claims t) (walk-at t) walk.Post
 walk-returns-3 t c =
-    walked-inner (c .before .before .before .before .before .before .before .before .before .before .before .before .before .before .before .before .args .n) (c .before .before .before .before .before .before .before .before .before .before .before .before .before .before .before .before .args .t .now) (c .before .before .before .before .before .before .before .before .before .before .before .before .before .before .before .before .args .near .now) (c .before .before .before .before .before .before .before .before .before .before .before .before .before .before .before .before .args .marks .now) (c .before .before .before .before .before .before .before .before .before .before .before .before .before .before .before .before .args .sides .now) (c .before .before .before .before .before .before .before .before .before .before .before .before .before .before .before .before .args .e) (c .before .before .before .before .before .before .before .before .before .before .before .before .before .before .before .before .args .v) (c .before .before .before .before .before .before .before .before .before .before .before .before .before .before .before .before .pre .1) (mark-not (c .before .before .before .before .before .before .before .before .before .before .before .before .before .before .before .before .args .marks .now) (c .before .before .before .before .before .before .before .before .before .before .before .before .before .before .before .before .args .v) (c .before .before .before .before .before .before .before .before .before .before .before .before .before .if1 .left)) (c .before .before .before .before .before .before .before .before .before .before .others .result .f) (c .before .before .before .before .before .before .before .before .before .before .others .result .g) (c .before .before .before .before .before .before .before .before .before .far .result) (c .before .before .before .before .before .far2 .result) (c .before .before .before .before .before .before .before .before .before .before .before .before .if2 .left) (c .before .before .before .before .before .before .before .before .before .before .others .ensures .0) (c .before .before .before .before .before .before .before .before .before .before .others .ensures .1) (c .before .before .before .before .before .before .before .before .before .far .ensures) (c .before .before .before .before .before .far2 .ensures) _ _ _ (c .before .before .before .before .before .before .walk .ensures) _ _ _ _ _ (c .before .before .walk2 .ensures) refl (c .note2 .ensures)
+    let at-walk2 = c .before .before in
+    let at-far2 = at-walk2 .before .before .before in
+    let at-walk = at-far2 .before in
+    let at-far = at-walk .before .before .before in
+    let at-others = at-far .before in
+    let at-if2 = at-others .before .before in
+    let at-if1 = at-if2 .before in
+    let st = at-if1 .before .before .before in
+    let unmarked = mark-not (st .args .marks .now) (st .args .v) (at-if1 .if1 .left) in
+    walked-inner (st .pre .1) unmarked (at-if2 .if2 .left) (at-others .others .ensures) (at-far .far .ensures)
+    (at-far2 .far2 .ensures) (at-walk .walk .ensures) (at-walk2 .walk2 .ensures) refl (c .note2 .ensures)
 
 pub +walk-spec : {M : Type 1} → statement M
 +walk-spec = close μ-walk λ t. walk-lts.spec (claims t)

@@ -1,5 +1,5 @@
 -- `sides::all_reached` meets its contract. Assumes nothing.
-use mathlib.Core.Path.{refl, _∙_}
+use mathlib.Core.Path.{_∙_}
 use Rattle.near.proofs.PlaceLaws.{across-room}
 use Rattle.sides.proofs.WalkLaws.{zero-row, walks-start, start-reached, start-sides}
 use borrow.Author.Needs.{needs}
@@ -15,19 +15,35 @@ row-at-requires c κs =
 
 far-requires : tie.Need-far-requires
 far-requires c κs =
-    across-room (c .before .before .before .args .n) (c .before .before .before .args .t .now) (c .before .before .before .pre .0) 0 (c .row-at .result) (zero-row (c .before .before .before .args .n) (c .before .before .before .args .t .now) (c .before .before .before .args .near .now) (c .before .before .before .args .sides .now) (c .row-at .result) _ (c .before .before .before .pre .0) (c .before .before .before .pre .1) (c .before .before .before .pre .2) (c .row-at .ensures) refl)
+    let st = c .before .before .before in
+    across-room (st .args .n) (st .args .t .now) (st .pre .0) 0 (c .row-at .result)
+    (zero-row (st .pre .0) (st .pre .1) (c .row-at .ensures))
 
 walk-requires : tie.Need-walk-requires
 walk-requires c κs =
-    walks-start (c .before .before .before .before .before .before .args .n) (c .before .before .before .before .before .before .args .t .now) (c .before .before .before .before .before .before .args .near .now) (c .before .before .before .before .before .before .args .sides .now) (c .before .before .before .row-at .result) (c .before .before .far .result) (c .before .before .before .before .before .before .pre .0) (c .before .before .before .before .before .before .pre .1) (c .before .before .before .before .before .before .pre .2) (c .before .before .before .row-at .ensures) (c .before .before .far .ensures)
+    let at-far = c .before .before in
+    let at-row = at-far .before in
+    let st = at-row .before .before .before in
+    walks-start (st .pre .0) (st .pre .1) (at-row .row-at .ensures) (at-far .far .ensures) (st .pre .2)
 
 all-marked-requires : tie.Need-all-marked-requires
 all-marked-requires c κs =
-    (c .before .before .before .before .before .before .before .before .pre .0 .ordered .big, c .before .before .before .before .before .before .before .before .pre .0 .ordered .few)
+    let st = c .before .before .before .before .before .before .before .before in
+    (st .pre .0 .ordered .big, st .pre .0 .ordered .few)
 
 returns : tie.Need-returns
 returns c =
-    (c .all-marked .ensures ∙ start-reached (c .before .before .before .before .before .before .before .before .before .args .n) (c .before .before .before .before .before .before .before .before .before .args .t .now) (c .before .before .before .before .before .before .before .before .before .args .near .now) (c .before .before .before .before .before .before .before .before .before .args .sides .now) (c .before .before .before .before .before .before .row-at .result) (c .before .before .before .before .before .far .result) (c .before .before .before .before .before .before .before .before .before .pre .0) (c .before .before .before .before .before .before .before .before .before .pre .1) (c .before .before .before .before .before .before .before .before .before .pre .2) (c .before .before .before .before .before .before .row-at .ensures) (c .before .before .before .before .before .far .ensures) _ _ _ (c .before .before .walk .ensures), start-sides (c .before .before .before .before .before .before .before .before .before .args .n) (c .before .before .before .before .before .before .before .before .before .args .t .now) (c .before .before .before .before .before .before .before .before .before .args .near .now) (c .before .before .before .before .before .before .before .before .before .args .sides .now) (c .before .before .before .before .before .before .row-at .result) (c .before .before .before .before .before .far .result) (c .before .before .before .before .before .before .before .before .before .pre .0) (c .before .before .before .before .before .before .before .before .before .pre .1) (c .before .before .before .before .before .before .before .before .before .pre .2) (c .before .before .before .before .before .before .row-at .ensures) (c .before .before .before .before .before .far .ensures) _ _ _ (c .before .before .walk .ensures))
+    let at-walk = c .before .before in
+    let at-far = at-walk .before .before .before in
+    let at-row = at-far .before in
+    let st = at-row .before .before .before in
+    let row = at-row .row-at .ensures in
+    let node = at-far .far .ensures in
+    let walked = at-walk .walk .ensures in
+    record {
+      all = c .all-marked .ensures ∙ start-reached (st .pre .0) (st .pre .1) row node walked;
+      sides = start-sides (st .pre .0) (st .pre .1) row node walked (st .pre .2);
+    }
 
 pub all-reached-spec : {M : Type 1} → statement M
 all-reached-spec =

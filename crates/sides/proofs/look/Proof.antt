@@ -1,8 +1,5 @@
 -- `sides::look` meets its contract. Assumes nothing.
-use mathlib.Core.Path.{refl, sym, ap, _∙_}
-use Rattle.table.specs.Says.{checkSays}
-use Rattle.table.proofs.Stages.{said-rowed}
-use Rattle.sides.proofs.LookLaws.{found-rows, found-tree, found-5}
+use Rattle.sides.proofs.LookLaws.{found-rows, found-rowed, found-tree, found-5}
 use borrow.Author.Needs.{needs}
 use Rattle.sides.proofs.look.Statement.{statement}
 use Rattle.sides.proofs.look.Tie as tie
@@ -18,23 +15,41 @@ enum-told c = search needs
 
 hook-rows-requires : tie.Need-hook-rows-requires
 hook-rows-requires c κs =
-    (said-rowed (c .before .before .before .before .before .args .n) (c .before .before .before .before .before .args .t .now) (sym (c .before .before .before .check-rows .ensures) ∙ ap checkSays (c .before .enum-told .given .1)), c .before .before .before .before .before .pre .0)
+    let told = c .before in
+    let rows = told .before .before in
+    let st = rows .before .before in
+    (found-rowed (st .args .n) (st .args .t .now) (rows .check-rows .ensures) (told .enum-told .given .1), st .pre .0)
 
 all-reached-requires : tie.Need-all-reached-requires
 all-reached-requires c κs =
-    (said-rowed (c .before .before .before .before .before .before .before .before .args .n) (c .before .before .before .before .before .before .before .before .args .t .now) (sym (c .before .before .before .before .before .before .check-rows .ensures) ∙ ap checkSays (c .before .before .before .before .enum-told .given .1)), c .before .before .hook-rows .ensures .near, c .before .before .before .before .before .before .before .before .pre .1)
+    let hooked = c .before .before in
+    let told = hooked .before .before in
+    let rows = told .before .before in
+    let st = rows .before .before in
+    let rowed = found-rowed (st .args .n) (st .args .t .now) (rows .check-rows .ensures) (told .enum-told .given .1) in
+    (rowed, hooked .hook-rows .ensures .near, st .pre .1)
 
 returns : tie.Need-returns
 returns c =
-    found-tree (c .before .before .before .before .before .before .before .before .before .before .args .n) (c .before .before .before .before .before .before .before .before .before .before .args .t .now) _ _ _ (sym (c .before .before .before .before .before .before .before .before .check-rows .ensures) ∙ ap checkSays (c .before .before .before .before .before .before .enum-told .given .1)) (sym (c .before .all-reached .ensures .0) ∙ c .if1 .taken) refl (c .before .before .before .before .hook-rows .ensures .near) (c .before .all-reached .ensures .1)
+    let reached = c .before in
+    let hooked = reached .before .before .before in
+    let told = hooked .before .before in
+    let rows = told .before .before in
+    found-tree (rows .check-rows .ensures) (told .enum-told .given .1) (reached .all-reached .ensures)
+    (hooked .hook-rows .ensures .near) (c .if1 .taken)
 
 returns-2 : tie.Need-returns-2
 returns-2 c =
-    found-rows (c .before .before .before .before .before .args .n) (c .before .before .before .before .before .args .t .now) _ _ _ _ (sym (c .before .before .before .check-rows .ensures) ∙ ap checkSays (c .before .answer .given .1)) refl
+    let answer = c .before in
+    let rows = answer .before .before in
+    found-rows (rows .check-rows .ensures) (answer .answer .given .1)
 
 returns-3 : tie.Need-returns-3
 returns-3 c =
-    found-5 (c .before .before .before .before .before .before .before .before .before .before .args .n) (c .before .before .before .before .before .before .before .before .before .before .args .t .now) _ _ _ (sym (c .before .before .before .before .before .before .before .before .check-rows .ensures) ∙ ap checkSays (c .before .before .before .before .before .before .enum-told .given .1)) (sym (c .before .all-reached .ensures .0) ∙ c .if1 .left) refl
+    let reached = c .before in
+    let told = reached .before .before .before .before .before in
+    let rows = told .before .before in
+    found-5 (rows .check-rows .ensures) (told .enum-told .given .1) (reached .all-reached .ensures) (c .if1 .left)
 
 pub look-spec : {M : Type 1} → statement M
 look-spec =

@@ -10,18 +10,24 @@ use Rattle.splits.proofs.add.Tie as tie
 
 returns : tie.Need-returns
 returns c =
-    listed-kept (c .before .before .args .x) (c .before .before .args .len) (c .before .before .args .out .now) (c .if1 .taken) (c .before .before .pre .0)
+    let st = c .before .before in
+    listed-kept (st .args .x) (st .args .len) (st .args .out .now) (c .if1 .taken) (st .pre .0)
 
 insert-requires : tie.Need-insert-requires
 insert-requires c κs =
-    (c .before .before .before .pre .0, subst (λ (z : List ℕ). length z ≤ length (c .before .before .before .args .out .now)) (added-insert (c .before .before .before .args .x) (take (c .before .before .before .args .len) (c .before .before .before .args .out .now)) (c .before .if1 .left)) (c .before .before .before .pre .1))
+    let st = c .before .before .before in
+    let o = st .args .out .now in
+    let put = added-insert (st .args .x) (take (st .args .len) o) (c .before .if1 .left) in
+    (st .pre .0, subst (λ (z : List ℕ). length z ≤ length o) put (st .pre .1))
 
 same-length : tie.Need-same-length
 same-length c = search needs
 
 returns-2 : tie.Need-returns-2
 returns-2 c =
-    listed-put (c .before .before .before .before .before .before .args .x) (c .before .before .before .before .before .before .args .len) _ (c .before .before .before .before .before .before .args .out .now) _ (c .before .before .before .before .if1 .left) (c .before .before .insert .ensures .0) (c .before .before .insert .ensures .1)
+    let at-if1 = c .before .before .before .before in
+    let st = at-if1 .before .before in
+    listed-put (st .args .x) (st .args .len) (at-if1 .if1 .left) (c .before .before .insert .ensures)
 
 pub add-spec : {M : Type 1} → statement M
 add-spec = tie.close (tie.spec returns insert-requires same-length returns-2)

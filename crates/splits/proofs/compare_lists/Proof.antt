@@ -1,5 +1,5 @@
 -- `splits::compare_lists` meets its contract. Assumes nothing.
-use Rattle.tree.specs.Refusals.{Said, gives}
+use Rattle.calls.specs.Calls.{Said, gives}
 use mathlib.Core.Path.{ap₂}
 use Prim.Native.Nat.{ℕ, _+_}
 use native.Mathlib.Omega.{arith}
@@ -19,7 +19,7 @@ first-lacking-requires c κs = search needs
 
 add-t6 : tie.Need-add-t6
 add-t6 c =
-    record { fits = omega (arith, c .before .before .count-lacking .ensures, c .before .count-lacking2 .ensures, lacks-most (c .before .before .before .before .before .args .a .now) (c .before .before .before .before .before .args .b .now), lacks-most (c .before .before .before .before .before .args .b .now) (c .before .before .before .before .before .args .a .now), c .before .before .before .before .before .pre .2, c .before .before .before .before .before .pre .3) }
+    record { fits = omega (arith, c .before .before .count-lacking .ensures, c .before .count-lacking2 .ensures, lacks-most (c .before .before .before .before .before .args .a .now) (c .before .before .before .before .before .args .b .now), lacks-most (c .before .before .before .before .before .args .b .now) (c .before .before .before .before .before .args .a .now), c .before .before .before .before .before .pre .0 .few, c .before .before .before .before .before .pre .1 .few) }
 
 returns : tie.Need-returns
 returns c =

@@ -6,7 +6,7 @@ use Prim.Native.Nat.{ℕ}
 use mathlib.Core.Path.{refl, sym, _∙_}
 use native.Mathlib.Omega.{arith}
 use borrow.Author.Tests.{ltb-true}
-use Rattle.sides.proofs.LookLaws.{found-tree-is, found-refused}
+use Rattle.sides.proofs.LookLaws.{found-looked, found-refused, looked-sided}
 use Rattle.splits.proofs.SaidLaws.{compares-second, compares-6, compares-both}
 use borrow.Author.Needs.{needs}
 use Rattle.splits.proofs.compare_second.Statement.{statement}
@@ -24,30 +24,30 @@ enum-told c = search needs
 
 within-requires : tie.Need-within-requires
 within-requires c κs =
-    (omega (arith, c .before .before .before .before .before .before .before .pre .0 .valid .big), c .before .before .before .before .before .before .before .pre .0 .few)
+    (omega (arith, c .before .before .before .before .before .before .before .pre .good .valid .big), c .before .before .before .before .before .before .before .pre .good .few)
 
 compare-trees-requires : tie.Need-compare-trees-requires
 compare-trees-requires c κs =
     let s = c .before .before .before .before .before .before .before .before .before .before in
-    let w = found-tree-is (s .args .n) (s .args .u .now) _ _ _ (c .before .before .before .before .before .look .ensures) (c .before .before .before .enum-told .given .1) in
-    (s .pre .0, s .pre .1, w .0, w .2, ltb-true _ _ (sym (c .before .before .within .ensures) ∙ c .before .if1 .taken))
+    let w = found-looked (c .before .before .before .before .before .look .ensures) (c .before .before .before .enum-told .given .1) in
+    (s .pre, looked-sided w, ltb-true _ _ (sym (c .before .before .within .ensures) ∙ c .before .if1 .taken))
 
 returns : tie.Need-returns
 returns c =
     let s = c .before .before .before .before .before .before .before .before .before .before .before in
-    let w = found-tree-is (s .args .n) (s .args .u .now) _ _ _ (c .before .before .before .before .before .before .look .ensures) (c .before .before .before .before .enum-told .given .1) in
-    c .compare-trees .ensures ∙ compares-both (s .args .n) (s .args .t .now) (s .args .u .now) (s .args .y) (s .pre .0) (w .0) (sym (c .before .before .before .within .ensures) ∙ c .before .before .if1 .taken)
+    let w = found-looked (c .before .before .before .before .before .before .look .ensures) (c .before .before .before .before .enum-told .given .1) in
+    compares-both (s .args .n) (s .args .t .now) (s .args .u .now) (s .args .y) (s .pre .good) (w .good) (sym (c .before .before .before .within .ensures) ∙ c .before .before .if1 .taken) (c .compare-trees .result) (c .compare-trees .ensures)
 
 returns-2 : tie.Need-returns-2
 returns-2 c =
     let s = c .before .before .before .before .before .before .before .before in
-    compares-second (s .args .n) (s .args .t .now) (s .args .u .now) (s .args .y) (s .pre .0) _ (found-refused (s .args .n) (s .args .u .now) _ _ _ _ (c .before .before .before .look .ensures) (c .before .answer .given .1))
+    compares-second (s .args .n) (s .args .t .now) (s .args .u .now) (s .args .y) (s .pre .good) _ (found-refused (c .before .before .before .look .ensures) (c .before .answer .given .1))
 
 returns-3 : tie.Need-returns-3
 returns-3 c =
     let s = c .before .before .before .before .before .before .before .before .before in
-    let w = found-tree-is (s .args .n) (s .args .u .now) _ _ _ (c .before .before .before .before .look .ensures) (c .before .before .enum-told .given .1) in
-    compares-6 (s .args .n) (s .args .t .now) (s .args .u .now) (s .args .y) (s .pre .0) (w .0) (sym (c .before .within .ensures) ∙ c .if1 .left)
+    let w = found-looked (c .before .before .before .before .look .ensures) (c .before .before .enum-told .given .1) in
+    compares-6 (s .args .n) (s .args .t .now) (s .args .u .now) (s .args .y) (s .pre .good) (w .good) (sym (c .before .within .ensures) ∙ c .if1 .left)
 
 pub compare-second-spec : {M : Type 1} → statement M
 compare-second-spec =

@@ -1,14 +1,12 @@
 -- `splits::compare_trees` meets its contract. Assumes nothing.
-use Rattle.splits.proofs.ListLaws.{compared-lists, listed-prefix, splits-few}
-use mathlib.Core.Path.{sym, ap, _∙_, subst}
+use Rattle.splits.proofs.ListLaws.{compared-lists, listed-prefix, splits-few, split-list}
+use mathlib.Core.Path.{sym, ap, _∙_}
 use Prim.Native.Nat.{ℕ}
 use native.Mathlib.Omega.{arith}
 use lib.ListN.{length, length-replicate}
 use Rattle.taxa.specs.Most.{most}
 use Rattle.tree.specs.Tree.{rows}
-use Rattle.tree.specs.Refusals.{Said, gives}
-use Rattle.tree.specs.Lists.{Asc}
-use Rattle.tree.proofs.SplitLaws.{splits-asc}
+use Rattle.calls.specs.Calls.{Said, gives}
 use borrow.Author.Needs.{needs}
 use Rattle.splits.proofs.compare_trees.Statement.{statement}
 use Rattle.splits.proofs.compare_trees.Tie as tie
@@ -19,7 +17,7 @@ slice-aggregate-tree-splits c = search needs
 tree-splits-requires : tie.Need-tree-splits-requires
 tree-splits-requires c κs =
     let s = c .before .before .before in
-    (s .pre .0, s .pre .1, s .pre .4, omega (arith, splits-few (s .args .n) (s .args .t .now) (s .args .y), s .pre .0 .few, length-replicate {A = ℕ} (rows most) 0))
+    (s .pre .0, s .pre .2, omega (arith, splits-few (s .args .n) (s .args .t .now) (s .args .y), s .pre .0 .good .few, length-replicate {A = ℕ} (rows most) 0))
 
 slice-aggregate-tree-splits-2 : tie.Need-slice-aggregate-tree-splits-2
 slice-aggregate-tree-splits-2 c = search needs
@@ -27,12 +25,12 @@ slice-aggregate-tree-splits-2 c = search needs
 tree-splits-requires-2 : tie.Need-tree-splits-requires-2
 tree-splits-requires-2 c κs =
     let s = c .before .before .before .before .before .before in
-    (s .pre .2, s .pre .3, s .pre .4, omega (arith, splits-few (s .args .n) (s .args .u .now) (s .args .y), s .pre .0 .few, length-replicate {A = ℕ} (rows most) 0))
+    (s .pre .1, s .pre .2, omega (arith, splits-few (s .args .n) (s .args .u .now) (s .args .y), s .pre .0 .good .few, length-replicate {A = ℕ} (rows most) 0))
 
 array-share-prefix-first : tie.Need-array-share-prefix-first
 array-share-prefix-first c =
     let s = c .before .before .before .before .before .before .before .before in
-    omega (arith, c .before .before .before .before .tree-splits .ensures .count, splits-few (s .args .n) (s .args .t .now) (s .args .y), s .pre .0 .few)
+    omega (arith, c .before .before .before .before .tree-splits .ensures .count, splits-few (s .args .n) (s .args .t .now) (s .args .y), s .pre .0 .good .few)
 
 slice-aggregate-compare-lists : tie.Need-slice-aggregate-compare-lists
 slice-aggregate-compare-lists c =
@@ -41,7 +39,7 @@ slice-aggregate-compare-lists c =
 array-share-prefix-second : tie.Need-array-share-prefix-second
 array-share-prefix-second c =
     let s = c .before .before .before .before .before .before .before .before .before in
-    omega (arith, c .before .before .tree-splits2 .ensures .count, splits-few (s .args .n) (s .args .u .now) (s .args .y), s .pre .0 .few)
+    omega (arith, c .before .before .tree-splits2 .ensures .count, splits-few (s .args .n) (s .args .u .now) (s .args .y), s .pre .0 .good .few)
 
 slice-aggregate-compare-lists-2 : tie.Need-slice-aggregate-compare-lists-2
 slice-aggregate-compare-lists-2 c =
@@ -52,10 +50,8 @@ compare-lists-requires c κs =
     let s = c .before .before .before .before .before .before .before .before .before .before in
     let p = listed-prefix _ _ _ _ (c .before .before .before .before .before .before .tree-splits .ensures) in
     let q = listed-prefix _ _ _ _ (c .before .before .before .tree-splits2 .ensures) in (
-      subst Asc (sym p) (splits-asc (s .args .n) (s .args .t .now) (s .args .y)),
-      subst Asc (sym q) (splits-asc (s .args .n) (s .args .u .now) (s .args .y)),
-      omega (arith, ap length p, splits-few (s .args .n) (s .args .t .now) (s .args .y), s .pre .0 .few),
-      omega (arith, ap length q, splits-few (s .args .n) (s .args .u .now) (s .args .y), s .pre .0 .few),
+      split-list (s .args .n) (s .args .t .now) (s .args .y) (s .pre .0 .good .few) p,
+      split-list (s .args .n) (s .args .u .now) (s .args .y) (s .pre .0 .good .few) q,
     )
 
 returns : tie.Need-returns

@@ -14,12 +14,12 @@ use Rattle.splits.proofs.induced_tree.Tie as tie
 
 within-requires : tie.Need-within-requires
 within-requires c κs =
-    (omega (arith, c .before .before .pre .0 .valid .big), c .before .before .pre .0 .few)
+    (omega (arith, c .before .before .pre .good .valid .big), c .before .before .pre .good .few)
 
 returns : tie.Need-returns
 returns c =
     let s = c .before .before .before .before in
-    induces-6 (s .args .n) (s .args .t .now) (s .args .y) (s .args .out .now) (s .pre .0) (sym (c .before .within .ensures) ∙ not-true (c .before .within .result) (c .if1 .taken))
+    induces-6 (s .args .n) (s .args .t .now) (s .args .y) (s .args .out .now) (s .pre .good) (sym (c .before .within .ensures) ∙ not-true (c .before .within .result) (c .if1 .taken))
 
 size-requires : tie.Need-size-requires
 size-requires c κs = search needs
@@ -32,15 +32,15 @@ returns-2 : tie.Need-returns-2
 returns-2 c =
     let s = c .before .before .before .before .before .before .before in
     let b = sym (c .before .before .before .before .within .ensures) ∙ not-false (c .before .before .before .before .within .result) (c .before .before .before .if1 .left) in
-    let e = needed (s .args .n) (s .args .t .now) (s .args .y) (s .pre .0 .valid) (s .pre .0 .few) (ltb-true _ _ b) in
-    induces-11 (s .args .n) (s .args .t .now) (s .args .y) (s .args .out .now) (s .pre .0) b (omega (arith, c .if2 .taken, c .before .members .ensures, ap members (c .before .before .size .ensures), e))
+    let e = needed (s .args .n) (s .args .t .now) (s .args .y) (s .pre .good .valid) (s .pre .good .few) (ltb-true _ _ b) in
+    induces-11 (s .args .n) (s .args .t .now) (s .args .y) (s .args .out .now) (s .pre .good) b (omega (arith, c .if2 .taken, c .before .members .ensures, ap members (c .before .before .size .ensures), e))
 
 tree-splits-requires : tie.Need-tree-splits-requires
 tree-splits-requires c κs =
     let s = c .before .before .before .before .before .before .before .before in
     let b = sym (c .before .before .before .before .before .within .ensures) ∙ not-false (c .before .before .before .before .before .within .result) (c .before .before .before .before .if1 .left) in
-    let e = needed (s .args .n) (s .args .t .now) (s .args .y) (s .pre .0 .valid) (s .pre .0 .few) (ltb-true _ _ b) in
-    (s .pre .0, s .pre .1, ltb-true _ _ b, omega (arith, c .before .if2 .left, c .before .before .members .ensures, ap members (c .before .before .before .size .ensures), e))
+    let e = needed (s .args .n) (s .args .t .now) (s .args .y) (s .pre .good .valid) (s .pre .good .few) (ltb-true _ _ b) in
+    (s .pre, ltb-true _ _ b, omega (arith, c .before .if2 .left, c .before .before .members .ensures, ap members (c .before .before .before .size .ensures), e))
 
 same-length : tie.Need-same-length
 same-length c = search needs
@@ -49,8 +49,8 @@ returns-3 : tie.Need-returns-3
 returns-3 c =
     let s = c .before .before .before .before .before .before .before .before .before .before .before in
     let b = sym (c .before .before .before .before .before .before .before .before .within .ensures) ∙ not-false (c .before .before .before .before .before .before .before .before .within .result) (c .before .before .before .before .before .before .before .if1 .left) in
-    let e = needed (s .args .n) (s .args .t .now) (s .args .y) (s .pre .0 .valid) (s .pre .0 .few) (ltb-true _ _ b) in
-    induces-list (s .args .n) (s .args .t .now) (s .args .y) (s .args .out .now) (s .pre .0) b (omega (arith, c .before .before .before .before .if2 .left, c .before .before .before .before .before .members .ensures, ap members (c .before .before .before .before .before .before .size .ensures), e)) _ _ (c .before .before .tree-splits .ensures)
+    let e = needed (s .args .n) (s .args .t .now) (s .args .y) (s .pre .good .valid) (s .pre .good .few) (ltb-true _ _ b) in
+    induces-list (s .args .n) (s .args .t .now) (s .args .y) (s .args .out .now) (s .pre .good) b (omega (arith, c .before .before .before .before .if2 .left, c .before .before .before .before .before .members .ensures, ap members (c .before .before .before .before .before .before .size .ensures), e)) _ _ (c .before .before .tree-splits .ensures)
 
 pub induced-tree-spec : {M : Type 1} → statement M
 induced-tree-spec =

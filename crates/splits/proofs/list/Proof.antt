@@ -6,7 +6,8 @@ use native.Mathlib.Omega.{arith}
 use Rattle.taxa.specs.Most.{most}
 use Rattle.tree.specs.Tree.{rows}
 use Rattle.tree.proofs.SplitLaws.{split-wide}
-use Rattle.splits.specs.Listed.{splitsOf, Listed}
+use Rattle.lists.specs.Listed.{Listed}
+use Rattle.splits.specs.Listed.{splitsOf}
 use Rattle.splits.proofs.ListLaws.{splits-none, low-lt, listed-none, listed-length, listed-fits, listed-room, listed-more}
 use borrow.Author.Needs.{needs}
 use Rattle.splits.proofs.list.Statement.{statement}

@@ -1,7 +1,6 @@
 -- `tusvlane::refused` meets its contract. Assumes nothing.
 use mathlib.Core.Path.{ap}
-use Rattle.tree.specs.Refusals.{refuses}
-use Rattle.tusvlane.specs.Answers.{answerOf}
+use Prim.Native.Nat.{ℕ}
 use borrow.Author.Needs.{needs}
 use Rattle.tusvlane.proofs.refused.Statement.{statement}
 use Rattle.tusvlane.proofs.refused.Tie as tie
@@ -13,7 +12,7 @@ cast-k : tie.Need-cast-k
 cast-k c = search needs
 
 returns : tie.Need-returns
-returns c = ap (λ x. answerOf (refuses x)) (c .number .ensures)
+returns c = ap (λ (x : ℕ). record { refusal = x; value = 0 }) (c .number .ensures)
 
 pub refused-spec : {M : Type 1} → statement M
 refused-spec = tie.close (tie.spec number-requires cast-k returns)

@@ -1,6 +1,8 @@
 -- `tusvlane::tusvlane_apply_move` meets its contract. Assumes nothing.
-use mathlib.Core.Path.{refl}
-use Rattle.tusvlane.proofs.AnswerLaws.{apply-code}
+use mathlib.Core.Path.{refl, ap}
+use Rattle.calls.proofs.CallLaws.{call-as}
+use Rattle.judge.specs.Promises.{moveSays}
+use Rattle.calls.specs.Calls.{codeOf}
 use borrow.Author.Needs.{needs}
 use Rattle.tusvlane.proofs.tusvlane_apply_move.Statement.{statement}
 use Rattle.tusvlane.proofs.tusvlane_apply_move.Tie as tie
@@ -24,13 +26,13 @@ same-length : tie.Need-same-length
 same-length c = search needs
 
 returns : tie.Need-returns
-returns c = apply-code (c .before .before .before .before .apply-move .ensures) (c .enum-told .given .1) refl
+returns c = call-as codeOf (c .before .before .before .before .apply-move .ensures) (ap moveSays (c .enum-told .given .1)) refl
 
 same-length-2 : tie.Need-same-length-2
 same-length-2 c = search needs
 
 returns-2 : tie.Need-returns-2
-returns-2 c = apply-code (c .before .before .before .before .before .before .apply-move .ensures) (c .before .before .r .given .1) (c .number .ensures)
+returns-2 c = call-as codeOf (c .before .before .before .before .before .before .apply-move .ensures) (ap moveSays (c .before .before .r .given .1)) (c .number .ensures)
 
 pub tusvlane-apply-move-spec : {M : Type 1} → statement M
 tusvlane-apply-move-spec =

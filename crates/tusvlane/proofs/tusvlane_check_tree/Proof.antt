@@ -1,6 +1,8 @@
 -- `tusvlane::tusvlane_check_tree` meets its contract. Assumes nothing.
-use mathlib.Core.Path.{refl}
-use Rattle.tusvlane.proofs.AnswerLaws.{check-code}
+use mathlib.Core.Path.{refl, ap}
+use Rattle.calls.specs.Calls.{codeOf}
+use Rattle.calls.proofs.CallLaws.{call-as}
+use Rattle.table.specs.Says.{checkSays}
 use borrow.Author.Needs.{needs}
 use Rattle.tusvlane.proofs.tusvlane_check_tree.Statement.{statement}
 use Rattle.tusvlane.proofs.tusvlane_check_tree.Tie as tie
@@ -21,10 +23,12 @@ cast-result : tie.Need-cast-result
 cast-result c = search needs
 
 returns : tie.Need-returns
-returns c = check-code (c .before .before .check-tree .ensures) (c .enum-told .given .1) refl
+returns c = call-as codeOf (c .before .before .check-tree .ensures) (ap checkSays (c .enum-told .given .1)) refl
 
 returns-2 : tie.Need-returns-2
-returns-2 c = check-code (c .before .before .before .before .check-tree .ensures) (c .before .before .r .given .1) (c .number .ensures)
+returns-2 c =
+    call-as codeOf (c .before .before .before .before .check-tree .ensures) (ap checkSays (c .before .before .r .given .1))
+    (c .number .ensures)
 
 pub tusvlane-check-tree-spec : {M : Type 1} → statement M
 tusvlane-check-tree-spec =

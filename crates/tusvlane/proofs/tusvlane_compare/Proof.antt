@@ -1,8 +1,9 @@
 -- `tusvlane::tusvlane_compare` meets its contract. Assumes nothing.
 use mathlib.Core.Path.{refl, ap}
-use Rattle.tree.specs.Refusals.{refuses}
+use Prim.Native.Nat.{ℕ}
+use Rattle.calls.proofs.CallLaws.{call-as}
+use Rattle.splits.specs.Promises.{compareSays}
 use Rattle.tusvlane.specs.Answers.{comparisonOf}
-use Rattle.tusvlane.proofs.AnswerLaws.{compare-answer}
 use borrow.Author.Needs.{needs}
 use Rattle.tusvlane.proofs.tusvlane_compare.Statement.{statement}
 use Rattle.tusvlane.proofs.tusvlane_compare.Tie as tie
@@ -23,10 +24,13 @@ enum-known-d : tie.Need-enum-known-d
 enum-known-d c = search needs
 
 returns : tie.Need-returns
-returns c = compare-answer (c .before .before .before .before .compare .ensures) (c .before .before .r .given .1) (ap (λ x. comparisonOf (refuses x)) (c .number .ensures))
+returns c =
+    call-as comparisonOf (c .before .before .before .before .compare .ensures) (ap compareSays (c .before .before .r .given .1))
+    (ap (λ (x : ℕ). record { refusal = x; distance = 0; missing = 0 }) (c .number .ensures))
 
 returns-2 : tie.Need-returns-2
-returns-2 c = compare-answer (c .before .before .before .compare .ensures) (c .before .d .given .1) refl
+returns-2 c =
+    call-as comparisonOf (c .before .before .before .compare .ensures) (ap compareSays (c .before .d .given .1)) refl
 
 pub tusvlane-compare-spec : {M : Type 1} → statement M
 tusvlane-compare-spec =

@@ -1,6 +1,8 @@
 -- `tusvlane::tusvlane_induced_splits` meets its contract. Assumes nothing.
-use mathlib.Core.Path.{refl}
-use Rattle.tusvlane.proofs.AnswerLaws.{induced-answer}
+use mathlib.Core.Path.{refl, ap}
+use Rattle.calls.proofs.CallLaws.{call-as}
+use Rattle.splits.specs.Promises.{inducedSays}
+use Rattle.tusvlane.specs.Answers.{answerOf}
 use borrow.Author.Needs.{needs}
 use Rattle.tusvlane.proofs.tusvlane_induced_splits.Statement.{statement}
 use Rattle.tusvlane.proofs.tusvlane_induced_splits.Tie as tie
@@ -21,13 +23,13 @@ same-length : tie.Need-same-length
 same-length c = search needs
 
 returns : tie.Need-returns
-returns c = induced-answer (c .before .before .before .before .before .before .induced-splits .ensures) (c .before .before .r .given .1) (c .refused .ensures)
+returns c = call-as answerOf (c .before .before .before .before .before .before .induced-splits .ensures) (ap inducedSays (c .before .before .r .given .1)) (c .refused .ensures)
 
 same-length-2 : tie.Need-same-length-2
 same-length-2 c = search needs
 
 returns-2 : tie.Need-returns-2
-returns-2 c = induced-answer (c .before .before .before .before .before .induced-splits .ensures) (c .before .k .given .1) refl
+returns-2 c = call-as answerOf (c .before .before .before .before .before .induced-splits .ensures) (ap inducedSays (c .before .k .given .1)) refl
 
 pub tusvlane-induced-splits-spec : {M : Type 1} → statement M
 tusvlane-induced-splits-spec =

@@ -1,6 +1,8 @@
 -- `tusvlane::tusvlane_judge_move` meets its contract. Assumes nothing.
-use mathlib.Core.Path.{refl}
-use Rattle.tusvlane.proofs.AnswerLaws.{judge-answer}
+use mathlib.Core.Path.{refl, ap}
+use Rattle.calls.proofs.CallLaws.{call-as}
+use Rattle.judge.specs.Promises.{judgeSays}
+use Rattle.tusvlane.specs.Answers.{answerOf}
 use borrow.Author.Needs.{needs}
 use Rattle.tusvlane.proofs.tusvlane_judge_move.Statement.{statement}
 use Rattle.tusvlane.proofs.tusvlane_judge_move.Tie as tie
@@ -21,13 +23,13 @@ same-length : tie.Need-same-length
 same-length c = search needs
 
 returns : tie.Need-returns
-returns c = judge-answer (c .before .before .before .before .before .before .judge-move .ensures) (c .before .before .r .given .1) (c .refused .ensures)
+returns c = call-as answerOf (c .before .before .before .before .before .before .judge-move .ensures) (ap judgeSays (c .before .before .r .given .1)) (c .refused .ensures)
 
 same-length-2 : tie.Need-same-length-2
 same-length-2 c = search needs
 
 returns-2 : tie.Need-returns-2
-returns-2 c = judge-answer (c .before .before .before .before .before .judge-move .ensures) (c .before .k .given .1) refl
+returns-2 c = call-as answerOf (c .before .before .before .before .before .judge-move .ensures) (ap judgeSays (c .before .k .given .1)) refl
 
 pub tusvlane-judge-move-spec : {M : Type 1} → statement M
 tusvlane-judge-move-spec =

@@ -1,6 +1,8 @@
 -- `tusvlane::tusvlane_judge_one` meets its contract. Assumes nothing.
-use mathlib.Core.Path.{refl}
-use Rattle.tusvlane.proofs.AnswerLaws.{verdict-answer}
+use mathlib.Core.Path.{refl, ap}
+use Rattle.calls.proofs.CallLaws.{call-as}
+use Rattle.judge.specs.Promises.{verdictSays}
+use Rattle.tusvlane.specs.Answers.{answerOf}
 use borrow.Author.Needs.{needs}
 use Rattle.tusvlane.proofs.tusvlane_judge_one.Statement.{statement}
 use Rattle.tusvlane.proofs.tusvlane_judge_one.Tie as tie
@@ -18,10 +20,13 @@ enum-known-d : tie.Need-enum-known-d
 enum-known-d c = search needs
 
 returns : tie.Need-returns
-returns c = verdict-answer (c .before .before .before .before .judge-one .ensures .says) (c .before .before .r .given .1) (c .refused .ensures)
+returns c =
+    call-as answerOf (c .before .before .before .before .judge-one .ensures) (ap verdictSays (c .before .before .r .given .1))
+    (c .refused .ensures)
 
 returns-2 : tie.Need-returns-2
-returns-2 c = verdict-answer (c .before .before .before .judge-one .ensures .says) (c .before .d .given .1) refl
+returns-2 c =
+    call-as answerOf (c .before .before .before .judge-one .ensures) (ap verdictSays (c .before .d .given .1)) refl
 
 pub tusvlane-judge-one-spec : {M : Type 1} → statement M
 tusvlane-judge-one-spec =

@@ -1,6 +1,8 @@
 -- `tusvlane::tusvlane_list_move` meets its contract. Assumes nothing.
-use mathlib.Core.Path.{refl}
-use Rattle.tusvlane.proofs.AnswerLaws.{list-answer}
+use mathlib.Core.Path.{refl, ap}
+use Rattle.calls.proofs.CallLaws.{call-as}
+use Rattle.listing.specs.Listing.{linesSays}
+use Rattle.tusvlane.specs.Answers.{answerOf}
 use borrow.Author.Needs.{needs}
 use Rattle.tusvlane.proofs.tusvlane_list_move.Statement.{statement}
 use Rattle.tusvlane.proofs.tusvlane_list_move.Tie as tie
@@ -24,7 +26,7 @@ same-length-2 : tie.Need-same-length-2
 same-length-2 c = search needs
 
 returns : tie.Need-returns
-returns c = list-answer (c .before .before .before .before .before .before .before .before .list-move .ensures) (c .before .before .r .given .1) (c .refused .ensures)
+returns c = call-as answerOf (c .before .before .before .before .before .before .before .before .list-move .ensures) (ap linesSays (c .before .before .r .given .1)) (c .refused .ensures)
 
 same-length-3 : tie.Need-same-length-3
 same-length-3 c = search needs
@@ -33,7 +35,7 @@ same-length-4 : tie.Need-same-length-4
 same-length-4 c = search needs
 
 returns-2 : tie.Need-returns-2
-returns-2 c = list-answer (c .before .before .before .before .before .before .before .list-move .ensures) (c .before .e .given .1) refl
+returns-2 c = call-as answerOf (c .before .before .before .before .before .before .before .list-move .ensures) (ap linesSays (c .before .e .given .1)) refl
 
 pub tusvlane-list-move-spec : {M : Type 1} → statement M
 tusvlane-list-move-spec =

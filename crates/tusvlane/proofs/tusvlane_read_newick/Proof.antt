@@ -1,8 +1,9 @@
 -- `tusvlane::tusvlane_read_newick` meets its contract. Assumes nothing.
 use mathlib.Core.Path.{refl, ap}
-use Rattle.reader.specs.Promises.{refuses}
+use Rattle.tusvlane.proofs.AnswerLaws.{placed-as}
+use Rattle.calls.proofs.CallLaws.{callBy-as}
+use Rattle.reader.specs.Promises.{readingSays}
 use Rattle.tusvlane.specs.Answers.{placedOf}
-use Rattle.tusvlane.proofs.AnswerLaws.{read-answer, placed-is}
 use borrow.Author.Needs.{needs}
 use Rattle.tusvlane.proofs.tusvlane_read_newick.Statement.{statement}
 use Rattle.tusvlane.proofs.tusvlane_read_newick.Tie as tie
@@ -35,19 +36,19 @@ same-length : tie.Need-same-length
 same-length c = search needs
 
 returns : tie.Need-returns
-returns c = read-answer (c .before .before .before .before .read-newick .ensures) (c .enum-told .given .1) refl
+returns c = callBy-as placedOf (c .before .before .before .before .read-newick .ensures) (ap readingSays (c .enum-told .given .1)) refl
 
 same-length-2 : tie.Need-same-length-2
 same-length-2 c = search needs
 
 returns-2 : tie.Need-returns-2
-returns-2 c = read-answer (c .before .before .before .before .before .before .read-newick .ensures) (c .before .before .r .given .1) (ap (λ x. placedOf (refuses x)) (c .number .ensures))
+returns-2 c = callBy-as placedOf (c .before .before .before .before .before .before .read-newick .ensures) (ap readingSays (c .before .before .r .given .1)) (placed-as 0 (c .number .ensures))
 
 same-length-3 : tie.Need-same-length-3
 same-length-3 c = search needs
 
 returns-3 : tie.Need-returns-3
-returns-3 c = read-answer (c .before .before .before .before .before .before .read-newick .ensures) (c .before .before .r2 .given .1) (placed-is _ _ _ (c .number2 .ensures))
+returns-3 c = callBy-as placedOf (c .before .before .before .before .before .before .read-newick .ensures) (ap readingSays (c .before .before .r2 .given .1)) (placed-as _ (c .number2 .ensures))
 
 pub tusvlane-read-newick-spec : {M : Type 1} → statement M
 tusvlane-read-newick-spec =

@@ -1,6 +1,9 @@
 -- `tusvlane::tusvlane_step` meets its contract. Assumes nothing.
-use mathlib.Core.Path.{refl}
-use Rattle.tusvlane.proofs.AnswerLaws.{step-answer, ended-is, stopped-is}
+use mathlib.Core.Path.{refl, ap}
+use Rattle.calls.proofs.CallLaws.{call-as}
+use Rattle.job.specs.Steps.{steppedSays}
+use Rattle.tusvlane.specs.Answers.{stepAnswerOf}
+use Rattle.tusvlane.proofs.AnswerLaws.{ended-is, stopped-is}
 use borrow.Author.Needs.{needs}
 use Rattle.tusvlane.proofs.tusvlane_step.Statement.{statement}
 use Rattle.tusvlane.proofs.tusvlane_step.Tie as tie
@@ -39,7 +42,9 @@ same-length-3 : tie.Need-same-length-3
 same-length-3 c = search needs
 
 returns : tie.Need-returns
-returns c = step-answer (c .before .before .before .before .before .before .before .before .before .step .ensures) (c .before .state .given .1) refl
+returns c =
+    call-as stepAnswerOf (c .before .before .before .before .before .before .before .before .before .step .ensures) (ap steppedSays (c .before .state .given .1))
+    refl
 
 same-length-4 : tie.Need-same-length-4
 same-length-4 c = search needs
@@ -51,7 +56,9 @@ same-length-6 : tie.Need-same-length-6
 same-length-6 c = search needs
 
 returns-2 : tie.Need-returns-2
-returns-2 c = step-answer (c .before .before .before .before .before .before .before .before .before .step .ensures) (c .before .enum-told .given .1) (ended-is _ (c .start .ensures))
+returns-2 c =
+    call-as stepAnswerOf (c .before .before .before .before .before .before .before .before .before .step .ensures) (ap steppedSays (c .before .enum-told .given .1))
+    (ended-is (c .start .ensures))
 
 same-length-7 : tie.Need-same-length-7
 same-length-7 c = search needs
@@ -63,7 +70,9 @@ same-length-9 : tie.Need-same-length-9
 same-length-9 c = search needs
 
 returns-3 : tie.Need-returns-3
-returns-3 c = step-answer (c .before .before .before .before .before .before .before .before .before .before .before .step .ensures) (c .before .before .before .why .given .1) (stopped-is _ _ _ _ (c .before .number .ensures) (c .start2 .ensures))
+returns-3 c =
+    call-as stepAnswerOf (c .before .before .before .before .before .before .before .before .before .before .before .step .ensures) (ap steppedSays (c .before .before .before .why .given .1))
+    (stopped-is (c .before .before .before .why .given .0 .0) _ (c .before .number .ensures) (c .start2 .ensures))
 
 pub tusvlane-step-spec : {M : Type 1} → statement M
 tusvlane-step-spec =

@@ -25,14 +25,17 @@ less-requires c κs = search needs
 
 returns : tie.Need-returns
 returns c =
-    let s = c .before .before .before .before .before .before .before in
-    c .less .ensures ∙ ap (λ (z : ℕ). less z (getD (s .args .s .now) (s .args .x) 0)) (c .before .full .ensures)
-    ∙ from-lo (s .args .n) (s .args .t .now) (s .args .s .now) (s .args .v) (s .args .x) (s .pre .0) (s .pre .1) (sym (c .before .before .before .lo .ensures) ∙ c .before .before .if1 .taken)
+    let at-if1 = c .before .before in
+    let at-lo = at-if1 .before in
+    let st = at-lo .before .before .before .before in
+    c .less .ensures
+    ∙ ap (λ (z : ℕ). less z (getD (st .args .s .now) (st .args .x) 0)) (c .before .full .ensures)
+    ∙ from-lo (st .pre .0) (st .pre .1) (sym (at-lo .lo .ensures) ∙ at-if1 .if1 .taken)
 
 returns-2 : tie.Need-returns-2
 returns-2 c =
-    let s = c .before .before .before .before .before in
-    from-hi (s .args .n) (s .args .t .now) (s .args .s .now) (s .args .v) (s .args .x) (s .pre .0) (s .pre .1) (λ d. c .if1 .left (c .before .lo .ensures ∙ d))
+    let st = c .before .before .before .before .before in
+    from-hi (st .pre .0) (st .pre .1) (λ d. c .if1 .left (c .before .lo .ensures ∙ d))
 
 pub beyond-spec : {M : Type 1} → statement M
 beyond-spec =

@@ -20,13 +20,16 @@ far-requires c κs = search needs
 
 leads-requires : tie.Need-leads-requires
 leads-requires c κs =
-    let s = c .before .before .before .before .before in
-    (target-at (s .args .n) (s .args .t .now) (s .args .a) (s .args .v) (s .args .b) (s .pre .0) (c .far .result) (c .far .ensures), s .pre .1, s .pre .2)
+    let st = c .before .before .before .before .before in
+    (target-at (st .pre .0) (c .far .ensures), st .pre .1, st .pre .2)
 
 returns-3 : tie.Need-returns-3
 returns-3 c =
-    let s = c .before .before .before .before .before .before in
-    c .leads .ensures ∙ target-other (s .args .n) (s .args .t .now) (s .args .a) (s .args .v) (s .args .b) (s .pre .0) (c .before .far .result) (c .before .far .ensures) (s .pre .2) (c .before .before .before .if1 .left) (c .before .before .if2 .left)
+    let at-if2 = c .before .before in
+    let at-if1 = at-if2 .before in
+    let st = at-if1 .before .before .before in
+    c .leads .ensures
+    ∙ target-other (st .pre .0) (c .before .far .ensures) (st .pre .2) (at-if1 .if1 .left) (at-if2 .if2 .left)
 
 pub is-target-spec : {M : Type 1} → statement M
 is-target-spec = tie.close (tie.spec returns returns-2 far-requires leads-requires returns-3)

@@ -20,13 +20,17 @@ shared-slice-read-i c = search needs
 
 returns-2 : tie.Need-returns-2
 returns-2 c =
-    let s = c .before .before .before .before .before .before in
-    leads-none (s .args .n) (s .args .t .now) (s .args .s .now) (s .args .b) (s .args .v) (s .args .x) (c .before .before .beyond .result) (s .pre .0) (s .pre .1) (s .pre .2) (c .before .before .before .if1 .left) (c .before .before .beyond .ensures) (c .if2 .taken)
+    let at-beyond = c .before .before in
+    let at-if1 = at-beyond .before in
+    let st = at-if1 .before .before .before in
+    leads-none (st .pre .0) (st .pre .1) (st .pre .2) (at-if1 .if1 .left) (at-beyond .beyond .ensures) (c .if2 .taken)
 
 returns-3 : tie.Need-returns-3
 returns-3 c =
-    let s = c .before .before .before .before .before .before in
-    leads-some (s .args .n) (s .args .t .now) (s .args .s .now) (s .args .b) (s .args .v) (s .args .x) (c .before .before .beyond .result) (s .pre .0) (s .pre .1) (s .pre .2) (c .before .before .before .if1 .left) (c .before .before .beyond .ensures) (c .if2 .left)
+    let at-beyond = c .before .before in
+    let at-if1 = at-beyond .before in
+    let st = at-if1 .before .before .before in
+    leads-some (st .pre .0) (st .pre .1) (st .pre .2) (at-if1 .if1 .left) (at-beyond .beyond .ensures) (c .if2 .left)
 
 pub leads-spec : {M : Type 1} → statement M
 leads-spec =

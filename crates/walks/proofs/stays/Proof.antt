@@ -1,57 +1,70 @@
 -- `walks::stays` meets its contract. Assumes nothing.
 use native.Mathlib.Omega.{arith}
-use Rattle.sides.proofs.FillLaws.{v-lt, two}
-use Rattle.walks.proofs.LeadLaws.{pair-f, pair-g}
-use Rattle.walks.proofs.WayLaws.{stays-one, stays-two}
+use Rattle.tree.proofs.Ends.{end-node}
+use Rattle.sides.proofs.FillLaws.{at-end, two}
+use Rattle.walks.proofs.WayLaws.{pair-f, pair-g, asked-at, stays-all, stays-one, stays-two}
 use borrow.Author.Needs.{needs}
 use Rattle.walks.proofs.stays.Statement.{statement}
 use Rattle.walks.proofs.stays.Tie as tie
 
 only-requires : tie.Need-only-requires
-only-requires c κs = search needs
+only-requires c κs =
+    let st = c .before .before .before .before in
+    omega (arith, c .if1 .taken, st .pre .0 .looked .good .few)
 
 element-write-out : tie.Need-element-write-out
 element-write-out c = search needs
 
 returns : tie.Need-returns
 returns c =
-    let s = c .before .before .before .before .before in
-    stays-one (s .args .n) (s .args .t .now) (s .args .a) (s .args .v) (s .args .out .now) (s .pre .3) (c .only .result) (c .before .if1 .taken) (c .only .ensures)
+    let at-if1 = c .before in
+    let st = at-if1 .before .before .before .before in
+    let a = st .args in
+    stays-all (st .pre .0) (st .pre .1)
+    (stays-one (a .n) (a .t .now) (a .a) (a .end .node) (a .out .now) (st .pre .0 .for-groups)
+    (c .only .result) (at-if1 .if1 .taken) (c .only .ensures))
 
 others-requires : tie.Need-others-requires
 others-requires c κs =
-    let s = c .before .before .before .before in
-    (omega (arith, v-lt (s .args .n) (s .args .t .now) (s .args .a) (s .args .v) (s .pre .0), s .pre .0 .good .few), s .pre .2 .room)
+    let st = c .before .before .before .before in
+    let here = end-node (at-end (asked-at (st .pre .0))) in
+    (omega (arith, here, st .pre .0 .looked .good .few), st .pre .0 .looked .rows .room)
 
 beyond-requires : tie.Need-beyond-requires
 beyond-requires c κs =
-    let s = c .before .before .before .before .before in
-    let f = c .others .result .f in
-    let g = c .others .result .g in
-    let K = two (s .args .n) (s .args .t .now) (s .args .near .now) (s .args .a) (s .args .v) f g (s .pre .0) (s .pre .2) (c .before .if1 .left) (c .others .ensures .0) (c .others .ensures .1) in
-    (pair-f (s .pre .0) K, s .pre .1)
+    let at-if1 = c .before in
+    let st = at-if1 .before .before .before .before in
+    let o = c .others in
+    let K = two (at-end (asked-at (st .pre .0))) (st .pre .0 .looked .rows) (at-if1 .if1 .left) (o .ensures) in
+    (pair-f (asked-at (st .pre .0)) K, st .pre .0 .looked .sides)
 
 element-write-out-2 : tie.Need-element-write-out-2
 element-write-out-2 c = search needs
 
 beyond-requires-2 : tie.Need-beyond-requires-2
 beyond-requires-2 c κs =
-    let s = c .before .before .before .before .before .before in
-    let f = c .before .others .result .f in
-    let g = c .before .others .result .g in
-    let K = two (s .args .n) (s .args .t .now) (s .args .near .now) (s .args .a) (s .args .v) f g (s .pre .0) (s .pre .2) (c .before .before .if1 .left) (c .before .others .ensures .0) (c .before .others .ensures .1) in
-    (pair-g (s .pre .0) K, s .pre .1)
+    let at-others = c .before in
+    let at-if1 = at-others .before in
+    let st = at-if1 .before .before .before .before in
+    let o = at-others .others in
+    let K = two (at-end (asked-at (st .pre .0))) (st .pre .0 .looked .rows) (at-if1 .if1 .left) (o .ensures) in
+    (pair-g (asked-at (st .pre .0)) K, st .pre .0 .looked .sides)
 
 element-write-out-3 : tie.Need-element-write-out-3
 element-write-out-3 c = search needs
 
 returns-2 : tie.Need-returns-2
 returns-2 c =
-    let s = c .before .before .before .before .before .before .before in
-    let f = c .before .before .others .result .f in
-    let g = c .before .before .others .result .g in
-    let K = two (s .args .n) (s .args .t .now) (s .args .near .now) (s .args .a) (s .args .v) f g (s .pre .0) (s .pre .2) (c .before .before .before .if1 .left) (c .before .before .others .ensures .0) (c .before .before .others .ensures .1) in
-    stays-two (s .args .n) (s .args .t .now) (s .args .a) (s .args .v) (s .args .out .now) (s .pre .3) f g (c .before .beyond .result) (c .beyond2 .result) (c .before .before .before .if1 .left) K (c .before .beyond .ensures) (c .beyond2 .ensures)
+    let at-beyond = c .before in
+    let at-others = at-beyond .before in
+    let at-if1 = at-others .before in
+    let st = at-if1 .before .before .before .before in
+    let a = st .args in
+    let o = at-others .others in
+    let K = two (at-end (asked-at (st .pre .0))) (st .pre .0 .looked .rows) (at-if1 .if1 .left) (o .ensures) in
+    stays-all (st .pre .0) (st .pre .1)
+    (stays-two (a .n) (a .t .now) (a .a) (a .end .node) (a .out .now) (st .pre .0 .for-groups) (o .result .f) (o .result .g)
+    (at-beyond .beyond .result) (c .beyond2 .result) (at-if1 .if1 .left) K (at-beyond .beyond .ensures) (c .beyond2 .ensures))
 
 pub stays-spec : {M : Type 1} → statement M
 stays-spec =

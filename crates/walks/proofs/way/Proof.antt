@@ -1,107 +1,103 @@
--- `walks::way` meets its contract. Assumes nothing.
+-- `walks::way` meets its contract. At each turn the groups passed stand at the
+-- start of the list; the measure is how many nodes are left. Assumes nothing.
 use mathlib.Core.Path.{subst}
 use Prim.Native.Nat.{ℕ, _-_}
 use native.Mathlib.Omega.{arith}
 use Rattle.tree.specs.Tree.{nodes}
 use Rattle.sides.specs.Filled.{At}
-use Rattle.walks.proofs.WayLaws.{Walked, walked-start, walked-inner, walked-lt, on-at, walked-next, walked-last, way-one, way-all}
+use Rattle.walks.proofs.WayLaws.{Walked, walked-start, walked-inner, walked-lt, on-at}
+use Rattle.walks.proofs.WayLaws.{walked-next, walked-last, way-all}
 use borrow.Author.Needs.{needs}
 use Rattle.walks.proofs.way.Statement.{statement}
 use Rattle.walks.proofs.way.Tie as tie
 
 abbrev Inv-loop : tie.InvT-loop
-Inv-loop n t near s a v b out₀ w₀ e₀ c₀ out w e c =
-    Walked n t b v a out₀ out w e c
+Inv-loop n t near s a out₀ b w₀ e₀ c₀ out w e c = Walked n t b w₀ a out₀ out w e c
 
 abbrev μ-loop : tie.MeasureT-loop
-μ-loop n t near s a v b out₀ w₀ e₀ c₀ out w e c =
-    nodes n - c
-
-only-requires : tie.Need-only-requires Inv-loop μ-loop
-only-requires c κs =
-    omega (arith, c .before .before .before .before .pre .0 .good .few)
-
-element-write-out : tie.Need-element-write-out Inv-loop μ-loop
-element-write-out c = search needs
-
-returns : tie.Need-returns Inv-loop μ-loop
-returns c =
-    let s = c .before .before .before .before .before in
-    way-one (s .args .n) (s .args .t .now) (s .args .b) (s .args .v) (s .args .a) (s .pre .0) (s .pre .1) (s .pre .2) (s .args .out .now) (c .only .result) (omega (arith, s .pre .5)) (c .before .if1 .taken) (c .only .ensures)
+μ-loop n t near s a out₀ b w₀ e₀ c₀ out w e c = nodes n - c
 
 loop-holds : tie.Need-loop-holds Inv-loop μ-loop
 loop-holds c =
-    let s = c .before .before .before .before in
-    walked-start (s .args .n) (s .args .t .now) (s .args .b) (s .args .v) (s .args .a) (s .pre .0) (s .pre .1) (s .pre .2) (s .args .out .now) (c .if1 .left)
+    let st = c .before .before .before in
+    walked-start (st .pre .0) (st .pre .1)
 
 pace-requires : tie.Need-pace-requires Inv-loop μ-loop
 pace-requires c κs =
-    let s = c .before .before .before .before .before in
-    let l = c .loop in
-    (l .inv .here, walked-inner (l .inv), s .pre .1, s .pre .3, s .pre .4)
+    let st = c .before .before .before .before in
+    let w = c .loop .inv in
+    (w .here, walked-inner w, st .pre .0 .right .row, st .pre .0 .looked)
 
 mul-out : tie.Need-mul-out Inv-loop μ-loop
 mul-out c = search needs
 
-element-write-out-2 : tie.Need-element-write-out-2 Inv-loop μ-loop
-element-write-out-2 c =
-    let s = c .before .before .before .before .before .before in
-    let l = c .before .loop in
-    omega (arith, walked-lt (l .inv), s .pre .0 .good .few, s .pre .5, l .inv .listed .len)
+element-write-out : tie.Need-element-write-out Inv-loop μ-loop
+element-write-out c =
+    let at-loop = c .before in
+    let st = at-loop .before .before .before .before in
+    let w = at-loop .loop .inv in
+    omega (arith, walked-lt w, st .pre .0 .looked .good .few, st .pre .0 .for-groups, w .listed .len)
 
 add-c : tie.Need-add-c Inv-loop μ-loop
 add-c c =
-    let l = c .before .loop in
-    omega (arith, l .inv .listed .few)
+    let at-loop = c .before in
+    omega (arith, at-loop .loop .inv .listed .few)
 
 beyond-requires : tie.Need-beyond-requires Inv-loop μ-loop
 beyond-requires c κs =
-    let s = c .before .before .before .before .before .before .before in
-    let l = c .before .before .loop in
-    let p = c .before .pace in
-    (subst (λ (x : ℕ). At (s .args .n) (s .args .t .now) x (l .w)) (c .if2 .taken) (on-at (l .inv) (p .ensures .0) (p .ensures .1)), s .pre .3)
+    let at-pace = c .before in
+    let at-loop = at-pace .before in
+    let st = at-loop .before .before .before .before in
+    let a = st .args in
+    let on = on-at (at-loop .loop .inv) (at-pace .pace .ensures) in
+    (subst (λ (x : ℕ). At (a .n) (a .t .now) x (at-loop .loop .w)) (c .if1 .taken) on, st .pre .0 .looked .sides)
 
 mul-out-2 : tie.Need-mul-out-2 Inv-loop μ-loop
 mul-out-2 c = search needs
 
-element-write-out-3 : tie.Need-element-write-out-3 Inv-loop μ-loop
-element-write-out-3 c =
-    let s = c .before .before .before .before .before .before .before .before in
-    let l = c .before .before .before .loop in
-    omega (arith, walked-lt (l .inv), s .pre .0 .good .few, s .pre .5, l .inv .listed .len)
+element-write-out-2 : tie.Need-element-write-out-2 Inv-loop μ-loop
+element-write-out-2 c =
+    let at-loop = c .before .before .before in
+    let st = at-loop .before .before .before .before in
+    let w = at-loop .loop .inv in
+    omega (arith, walked-lt w, st .pre .0 .looked .good .few, st .pre .0 .for-groups, w .listed .len)
 
 add-result : tie.Need-add-result Inv-loop μ-loop
 add-result c =
-    let l = c .before .before .before .loop in
-    omega (arith, l .inv .listed .few)
+    let at-loop = c .before .before .before in
+    omega (arith, at-loop .loop .inv .listed .few)
 
-returns-2 : tie.Need-returns-2 Inv-loop μ-loop
-returns-2 c =
-    let s = c .before .before .before .before .before .before .before .before in
-    let l = c .before .before .before .loop in
-    let p = c .before .before .pace in
-    way-all (s .args .n) (s .args .t .now) (s .args .b) (s .args .v) (s .args .a) (s .pre .0) (s .pre .1) (s .pre .2) (s .args .out .now) _ _ (c .before .before .before .before .if1 .left)
-    (walked-last (l .inv) (p .ensures .0) (p .ensures .1) (c .beyond .result) (s .pre .5) (c .before .if2 .taken) (c .beyond .ensures))
+returns : tie.Need-returns Inv-loop μ-loop
+returns c =
+    let at-if1 = c .before in
+    let at-pace = at-if1 .before in
+    let at-loop = at-pace .before in
+    let st = at-loop .before .before .before .before in
+    let last = walked-last (at-loop .loop .inv) (at-pace .pace .ensures) (c .beyond .result)
+    (st .pre .0 .for-groups) (at-if1 .if1 .taken) (c .beyond .ensures) in
+    way-all (st .pre .0) (st .pre .1) last
 
 far-requires : tie.Need-far-requires Inv-loop μ-loop
 far-requires c κs =
-    let s = c .before .before .before .before .before .before .before in
-    let l = c .before .before .loop in
-    let p = c .before .pace in
-    omega (arith, on-at (l .inv) (p .ensures .0) (p .ensures .1) .row, s .pre .0 .good .valid .len)
+    let at-pace = c .before in
+    let at-loop = at-pace .before in
+    let st = at-loop .before .before .before .before in
+    let on = on-at (at-loop .loop .inv) (at-pace .pace .ensures) in
+    omega (arith, on .row, st .pre .0 .looked .good .valid .len)
 
 loop-less : tie.Need-loop-less Inv-loop μ-loop
 loop-less c =
-    let s = c .before .before .before .before .before .before .before .before in
-    let l = c .before .before .before .loop in
-    omega (arith, walked-lt (l .inv))
+    let at-loop = c .before .before .before in
+    omega (arith, walked-lt (at-loop .loop .inv))
 
 loop-again : tie.Need-loop-again Inv-loop μ-loop
 loop-again c =
-    let s = c .before .before .before .before .before .before .before .before in
-    let l = c .before .before .before .loop in
-    let p = c .before .before .pace in
-    walked-next (l .inv) (p .ensures .0) (p .ensures .1) (c .far .result) (s .pre .5) (c .before .if2 .left) (c .far .ensures)
+    let at-if1 = c .before in
+    let at-pace = at-if1 .before in
+    let at-loop = at-pace .before in
+    let st = at-loop .before .before .before .before in
+    walked-next (at-loop .loop .inv) (at-pace .pace .ensures) (c .far .result) (st .pre .0 .for-groups)
+    (at-if1 .if1 .left) (c .far .ensures)
 
 pub way-spec : {M : Type 1} → statement M
 way-spec =
@@ -109,19 +105,16 @@ way-spec =
     (tie.spec
     Inv-loop
     μ-loop
-    only-requires
-    element-write-out
-    returns
     loop-holds
     pace-requires
     mul-out
-    element-write-out-2
+    element-write-out
     add-c
     beyond-requires
     mul-out-2
-    element-write-out-3
+    element-write-out-2
     add-result
-    returns-2
+    returns
     far-requires
     loop-less
     loop-again)
