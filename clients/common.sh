@@ -26,20 +26,9 @@ archive() {
     prove staticlib tusvlane
 }
 
-# Runs a compiled client. It is for x86-64. On another machine it is static,
-# and the kit's emulator runs it.
-run() { # PROGRAM
-    if [ "$machine" = x86_64 ]; then
-        "$1"
-    else
-        tools=$(emulator_folder) || exit 1
-        "$tools/bin/qemu-x86_64" "$1"
-    fi
-}
-
 # Runs a compiled client, shows what it prints and compares it with the file.
 run_and_compare() { # PROGRAM
-    run "$1" >"$1.out" || fail "the client ended with status $?"
+    "$top/tools/run-x86" "$1" >"$1.out" || fail "the client ended with status $?"
     cat "$1.out"
     cmp "$1.out" "$top/clients/output.txt" >&2 ||
         fail "different from clients/output.txt"

@@ -17,7 +17,7 @@ def on_x86():
 
 def command(program):
     """The words that run a program for x86-64; here directly, to save a shell's start."""
-    return [program] if on_x86() else [os.path.join(HERE, "run-x86"), program]
+    return [program] if on_x86() else [os.path.join(TOP, "tools", "run-x86"), program]
 
 
 def arguments(name, unit):

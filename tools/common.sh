@@ -1,7 +1,6 @@
 # shellcheck shell=sh
-# What verdicts, newick, clients/run-c and clients/run-rust share. POSIX sh. It
-# is read by them, and not run by itself. They set `top`, the folder of the
-# repository.
+# What the scripts of this repository share. POSIX sh. It is read by them, and
+# not run by itself. They set `top`, the folder of the repository.
 
 : "${top:?}"
 
@@ -58,24 +57,11 @@ build_program() { # NAME
     mv "$mark.new" "$mark"
 }
 
-# Starts a program that is built. It is for x86-64. On another machine the
-# kit's emulator runs it, with the loader and the C library that stand beside
-# the emulator.
-start_program() { # NAME
-    if [ "$(uname -m)" = x86_64 ]; then
-        "$top/target/bin/$1"
-    else
-        tools=$(emulator_folder) || exit 1
-        "$tools/bin/qemu-x86_64" "$tools/lib/ld-linux-x86-64.so.2" \
-            --library-path "$tools/lib" "$top/target/bin/$1"
-    fi
-}
-
 # Runs a program that is built. It has no status of its own: what it says on
 # standard error tells that it failed, and is put into `said`.
 run_program() { # NAME
     exec 3>&1
-    said=$(start_program "$1" 2>&1 >&3) ||
+    said=$("$top/tools/run-x86" "$top/target/bin/$1" 2>&1 >&3) ||
         said="${said:-the program was stopped}"
     [ -z "$said" ]
 }
