@@ -17,8 +17,11 @@ covers-requires c κs =
 
 returns : tie.Need-returns
 returns c =
-    let a = c .before .before .before .args in
-    c .covers .ensures ∙ ap (λ (z : ℕ). every (has z) (a .n)) (c .before .union .ensures) ∙ seen-union (a .n) (a .ys .now)
+    let at-union = c .before in
+    let st = at-union .before .before in
+    let a = st .args in
+    c .covers .ensures ∙ ap (λ (z : ℕ). every (has z) (a .n)) (at-union .union .ensures)
+    ∙ seen-union (a .n) (a .ys .now)
 
 pub all-seen-spec : {M : Type 1} → statement M
 all-seen-spec = tie.close (tie.spec union-requires covers-requires returns)

@@ -18,8 +18,11 @@ less-requires c κs = search needs
 
 returns : tie.Need-returns
 returns c =
-    let a = c .before .before .args in
-    ap (λ (z : ℕ). eqb z 0) (c .less .ensures ∙ ap (λ (z : ℕ). less z (a .y)) (c .before .full .ensures)) ∙ covers-is (a .n) (a .y)
+    let at-full = c .before in
+    let st = at-full .before in
+    let a = st .args in
+    ap (λ (z : ℕ). eqb z 0) (c .less .ensures ∙ ap (λ (z : ℕ). less z (a .y))
+    (at-full .full .ensures)) ∙ covers-is (a .n) (a .y)
 
 pub covers-spec : {M : Type 1} → statement M
 covers-spec = tie.close (tie.spec full-requires less-requires returns)

@@ -30,7 +30,8 @@ returns-2 : tie.Need-returns-2
 returns-2 c =
     let at-enum-told = c .before .before .before in
     let at-look = at-enum-told .before .before in
-    entered-tree (at-look .look .ensures) (at-enum-told .enum-told .given .1) (c .plan-after .ensures)
+    entered-tree (at-look .look .ensures) (at-enum-told .enum-told .given .1)
+    (c .plan-after .ensures)
 
 pub enter-spec : {M : Type 1} → statement M
 enter-spec =

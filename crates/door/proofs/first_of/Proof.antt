@@ -17,13 +17,15 @@ returns : tie.Need-returns
 returns c =
     let at-parts = c .before in
     let planned = at-parts .before .before .args .planned in
-    sym (ap (λ (x : Fitted). thenSaid (fittedSays x) (λ u. entrySays planned)) (at-parts .parts .given .1))
+    sym (ap (λ (x : Fitted). thenSaid (fittedSays x) (λ u. entrySays planned))
+    (at-parts .parts .given .1))
 
 returns-2 : tie.Need-returns-2
 returns-2 c =
     let at-enum-told = c in
     let planned = at-enum-told .before .before .args .planned in
-    sym (ap (λ (x : Fitted). thenSaid (fittedSays x) (λ u. entrySays planned)) (at-enum-told .enum-told .given .1))
+    sym (ap (λ (x : Fitted). thenSaid (fittedSays x) (λ u. entrySays planned))
+    (at-enum-told .enum-told .given .1))
 
 pub first-of-spec : {M : Type 1} → statement M
 first-of-spec = tie.close (tie.spec enum-known-parts enum-told returns returns-2)

@@ -16,7 +16,8 @@ returns c =
     let at-counted = c .before in
     let st = at-counted .before in
     let a = st .args in
-    let no = sym (at-counted .counted .ensures) ∙ not-true (at-counted .counted .result) (c .if1 .taken) in
+    let no = sym (at-counted .counted .ensures) ∙ not-true (at-counted .counted .result)
+    (c .if1 .taken) in
     parts-none (a .n) (partitionChecks (a .n) (a .y)) no
 
 within-requires : tie.Need-within-requires
@@ -24,7 +25,8 @@ within-requires c κs =
     let at-counted = c .before in
     let st = at-counted .before in
     let a = st .args in
-    let is = sym (at-counted .counted .ensures) ∙ not-false (at-counted .counted .result) (c .if1 .left) in
+    let is = sym (at-counted .counted .ensures) ∙ not-false (at-counted .counted .result)
+    (c .if1 .left) in
     let range = counted-range (a .n) is in
     (omega (arith, range .0), range .1)
 
@@ -35,7 +37,8 @@ returns-2 c =
     let at-counted = at-if1 .before in
     let st = at-counted .before in
     let a = st .args in
-    let is = sym (at-counted .counted .ensures) ∙ not-false (at-counted .counted .result) (at-if1 .if1 .left) in
+    let is = sym (at-counted .counted .ensures) ∙ not-false (at-counted .counted .result)
+    (at-if1 .if1 .left) in
     part-right (a .n) (a .y) (sym (at-within .within .ensures) ∙ c .if2 .taken)
     ∙ parts-said (a .n) (partitionChecks (a .n) (a .y)) is
 
@@ -46,7 +49,8 @@ returns-3 c =
     let at-counted = at-if1 .before in
     let st = at-counted .before in
     let a = st .args in
-    let is = sym (at-counted .counted .ensures) ∙ not-false (at-counted .counted .result) (at-if1 .if1 .left) in
+    let is = sym (at-counted .counted .ensures) ∙ not-false (at-counted .counted .result)
+    (at-if1 .if1 .left) in
     part-6 (a .n) (a .y) (sym (at-within .within .ensures) ∙ c .if2 .left)
     ∙ parts-said (a .n) (partitionChecks (a .n) (a .y)) is
 

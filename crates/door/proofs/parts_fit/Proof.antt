@@ -17,7 +17,8 @@ returns c =
     let at-counted = c .before in
     let st = at-counted .before .before in
     let a = st .args in
-    let no = sym (at-counted .counted .ensures) ∙ not-true (at-counted .counted .result) (c .if1 .taken) in
+    let no = sym (at-counted .counted .ensures) ∙ not-true (at-counted .counted .result)
+    (c .if1 .taken) in
     parts-none (a .n) (partitionsChecks (a .n) (a .ys .now)) no
 
 count-right-requires : tie.Need-count-right-requires
@@ -30,8 +31,10 @@ returns-2 c =
     let at-counted = at-if1 .before in
     let st = at-counted .before .before in
     let a = st .args in
-    let is = sym (at-counted .counted .ensures) ∙ not-false (at-counted .counted .result) (at-if1 .if1 .left) in
-    let none = sym (at-count-right .count-right .ensures) ∙ not-true (at-count-right .count-right .result) (c .if2 .taken) in
+    let is = sym (at-counted .counted .ensures) ∙ not-false (at-counted .counted .result)
+    (at-if1 .if1 .left) in
+    let none = sym (at-count-right .count-right .ensures) ∙ not-true
+    (at-count-right .count-right .result) (c .if2 .taken) in
     count-6 (a .n) (a .ys .now) none ∙ parts-said (a .n) (partitionsChecks (a .n) (a .ys .now)) is
 
 union-requires : tie.Need-union-requires
@@ -43,7 +46,8 @@ within-requires c κs =
     let at-counted = at-if1 .before in
     let st = at-counted .before .before in
     let a = st .args in
-    let is = sym (at-counted .counted .ensures) ∙ not-false (at-counted .counted .result) (at-if1 .if1 .left) in
+    let is = sym (at-counted .counted .ensures) ∙ not-false (at-counted .counted .result)
+    (at-if1 .if1 .left) in
     let range = counted-range (a .n) is in
     (omega (arith, range .0), range .1)
 
@@ -57,9 +61,12 @@ returns-3 c =
     let at-counted = at-if1 .before in
     let st = at-counted .before .before in
     let a = st .args in
-    let is = sym (at-counted .counted .ensures) ∙ not-false (at-counted .counted .result) (at-if1 .if1 .left) in
-    let some = sym (at-count-right .count-right .ensures) ∙ not-false (at-count-right .count-right .result) (at-if2 .if2 .left) in
-    let wide = sym (at-within .within .ensures) ∙ not-true (at-within .within .result) (c .if3 .taken) in
+    let is = sym (at-counted .counted .ensures) ∙ not-false (at-counted .counted .result)
+    (at-if1 .if1 .left) in
+    let some = sym (at-count-right .count-right .ensures) ∙ not-false
+    (at-count-right .count-right .result) (at-if2 .if2 .left) in
+    let wide = sym (at-within .within .ensures) ∙ not-true (at-within .within .result)
+    (c .if3 .taken) in
     union-6 (a .n) (a .ys .now) some (at-union .union .ensures) wide
     ∙ parts-said (a .n) (partitionsChecks (a .n) (a .ys .now)) is
 
@@ -69,7 +76,8 @@ covers-requires c κs =
     let at-counted = at-if1 .before in
     let st = at-counted .before .before in
     let a = st .args in
-    let is = sym (at-counted .counted .ensures) ∙ not-false (at-counted .counted .result) (at-if1 .if1 .left) in
+    let is = sym (at-counted .counted .ensures) ∙ not-false (at-counted .counted .result)
+    (at-if1 .if1 .left) in
     counted-range (a .n) is
 
 returns-4 : tie.Need-returns-4
@@ -84,10 +92,14 @@ returns-4 c =
     let at-counted = at-if1 .before in
     let st = at-counted .before .before in
     let a = st .args in
-    let is = sym (at-counted .counted .ensures) ∙ not-false (at-counted .counted .result) (at-if1 .if1 .left) in
-    let some = sym (at-count-right .count-right .ensures) ∙ not-false (at-count-right .count-right .result) (at-if2 .if2 .left) in
-    let right = sym (at-within .within .ensures) ∙ not-false (at-within .within .result) (at-if3 .if3 .left) in
-    union-right (a .n) (a .ys .now) some (at-union .union .ensures) right (sym (at-covers .covers .ensures) ∙ c .if4 .taken)
+    let is = sym (at-counted .counted .ensures) ∙ not-false (at-counted .counted .result)
+    (at-if1 .if1 .left) in
+    let some = sym (at-count-right .count-right .ensures) ∙ not-false
+    (at-count-right .count-right .result) (at-if2 .if2 .left) in
+    let right = sym (at-within .within .ensures) ∙ not-false (at-within .within .result)
+    (at-if3 .if3 .left) in
+    union-right (a .n) (a .ys .now) some (at-union .union .ensures) right
+    (sym (at-covers .covers .ensures) ∙ c .if4 .taken)
     ∙ parts-said (a .n) (partitionsChecks (a .n) (a .ys .now)) is
 
 returns-5 : tie.Need-returns-5
@@ -102,10 +114,14 @@ returns-5 c =
     let at-counted = at-if1 .before in
     let st = at-counted .before .before in
     let a = st .args in
-    let is = sym (at-counted .counted .ensures) ∙ not-false (at-counted .counted .result) (at-if1 .if1 .left) in
-    let some = sym (at-count-right .count-right .ensures) ∙ not-false (at-count-right .count-right .result) (at-if2 .if2 .left) in
-    let right = sym (at-within .within .ensures) ∙ not-false (at-within .within .result) (at-if3 .if3 .left) in
-    union-16 (a .n) (a .ys .now) some (at-union .union .ensures) right (sym (at-covers .covers .ensures) ∙ c .if4 .left)
+    let is = sym (at-counted .counted .ensures) ∙ not-false (at-counted .counted .result)
+    (at-if1 .if1 .left) in
+    let some = sym (at-count-right .count-right .ensures) ∙ not-false
+    (at-count-right .count-right .result) (at-if2 .if2 .left) in
+    let right = sym (at-within .within .ensures) ∙ not-false (at-within .within .result)
+    (at-if3 .if3 .left) in
+    union-16 (a .n) (a .ys .now) some (at-union .union .ensures) right
+    (sym (at-covers .covers .ensures) ∙ c .if4 .left)
     ∙ parts-said (a .n) (partitionsChecks (a .n) (a .ys .now)) is
 
 pub parts-fit-spec : {M : Type 1} → statement M

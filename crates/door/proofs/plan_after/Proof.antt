@@ -17,7 +17,8 @@ returns : tie.Need-returns
 returns c =
     let at-plan = c .before in
     let parts = at-plan .before .before .before .args .parts in
-    c .first-of .ensures ∙ ap (λ (x : Said Plan). thenSaid (fittedSays parts) (λ u. x)) (at-plan .plan-of .ensures)
+    c .first-of .ensures ∙ ap (λ (x : Said Plan). thenSaid (fittedSays parts) (λ u. x))
+    (at-plan .plan-of .ensures)
 
 pub plan-after-spec : {M : Type 1} → statement M
 plan-after-spec = tie.close (tie.spec plan-of-requires first-of-requires returns)

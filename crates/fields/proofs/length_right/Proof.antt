@@ -11,7 +11,9 @@ sub-rest c = search needs
 
 returns : tie.Need-returns
 returns c =
-    no-head (c .before .before .args .job .now) (c .before .before .args .at) (c .before .before .args .l) (c .if1 .taken) (c .before .before .pre)
+    let st = c .before .before in
+    let a = st .args in
+    no-head (a .job .now) (a .at) (a .l) (c .if1 .taken) (st .pre)
 
 stated-requires : tie.Need-stated-requires
 stated-requires c κs =
@@ -19,11 +21,19 @@ stated-requires c κs =
 
 returns-2 : tie.Need-returns-2
 returns-2 c =
-    other-length (c .before .before .before .before .args .job .now) (c .before .before .before .before .args .at) (c .before .before .before .before .args .l) (λ h. c .if2 .taken (c .before .stated .ensures ∙ h))
+    let at-stated = c .before in
+    let st = at-stated .before .before .before in
+    let a = st .args in
+    other-length (a .job .now) (a .at) (a .l) (λ h. c .if2 .taken (at-stated .stated .ensures ∙ h))
 
 returns-3 : tie.Need-returns-3
 returns-3 c =
-    right-length (c .before .before .before .before .args .job .now) (c .before .before .before .before .args .at) (c .before .before .before .before .args .l) (c .before .before .if1 .left) (sym (c .before .stated .ensures) ∙ c .if2 .left)
+    let at-stated = c .before in
+    let at-if1 = at-stated .before in
+    let st = at-if1 .before .before in
+    let a = st .args in
+    right-length (a .job .now) (a .at) (a .l) (at-if1 .if1 .left) (sym (at-stated .stated .ensures)
+    ∙ c .if2 .left)
 
 pub length-right-spec : {M : Type 1} → statement M
 length-right-spec = tie.close (tie.spec sub-rest returns stated-requires returns-2 returns-3)

@@ -24,7 +24,12 @@ loop-holds c =
 
 mul-y : tie.Need-mul-y Inv-loop μ-loop
 mul-y c =
-    omega (arith, eight-bytes (c .before .loop .i) (c .before .loop .y) 0 (c .loop-test .taken) (c .before .loop .inv .2) (omega arith))
+    let at-loop = c .before in
+    omega (
+      arith,
+      eight-bytes (at-loop .loop .i) (at-loop .loop .y) 0 (c .loop-test .taken)
+          (at-loop .loop .inv .2) (omega arith),
+    )
 
 add-y : tie.Need-add-y Inv-loop μ-loop
 add-y c =
@@ -35,11 +40,20 @@ shared-slice-read-y c = search needs
 
 cast-y : tie.Need-cast-y Inv-loop μ-loop
 cast-y c =
-    omega (arith, c .shared-slice-known .given (c .before .before .before .args .from + c .before .before .loop .i))
+    let at-loop = c .before .before in
+    let st = at-loop .before in
+    omega (arith, c .shared-slice-known .given (st .args .from + at-loop .loop .i))
 
 add-y-2 : tie.Need-add-y-2 Inv-loop μ-loop
 add-y-2 c =
-    record { fits = eight-bytes (c .before .before .loop .i) (c .before .before .loop .y) _ (c .before .loop-test .taken) (c .before .before .loop .inv .2) (omega (arith, c .shared-slice-known .given (c .before .before .before .args .from + c .before .before .loop .i))) }
+    let at-loop-test = c .before in
+    let at-loop = at-loop-test .before in
+    let st = at-loop .before in
+    record {
+      fits = eight-bytes (at-loop .loop .i) (at-loop .loop .y) _
+          (at-loop-test .loop-test .taken) (at-loop .loop .inv .2)
+          (omega (arith, c .shared-slice-known .given (st .args .from + at-loop .loop .i)));
+    }
 
 add-i : tie.Need-add-i Inv-loop μ-loop
 add-i c = search needs
@@ -49,12 +63,29 @@ loop-less c = search needs
 
 loop-again : tie.Need-loop-again Inv-loop μ-loop
 loop-again c =
-    (omega (arith, c .before .loop-test .taken), next-byte (c .before .before .before .args .job .now) (c .before .before .before .args .from) (c .before .before .loop .i) (c .before .before .loop .y) (omega (arith, c .before .before .before .pre, c .before .loop-test .taken)) (c .before .before .loop .inv .1), byte-below (c .before .before .loop .i) (c .before .before .loop .y) _ (c .before .before .loop .inv .2) (omega (arith, c .shared-slice-known .given (c .before .before .before .args .from + c .before .before .loop .i))))
+    let at-loop-test = c .before in
+    let at-loop = at-loop-test .before in
+    let st = at-loop .before in
+    let a = st .args in (
+      omega (arith, at-loop-test .loop-test .taken),
+      next-byte (a .job .now) (a .from)
+          (at-loop .loop .i) (at-loop .loop .y) (omega (arith, st .pre, at-loop-test .loop-test .taken))
+          (at-loop .loop .inv .1),
+      byte-below (at-loop .loop .i) (at-loop .loop .y) _
+          (at-loop .loop .inv .2) (omega (
+            arith,
+            c .shared-slice-known .given
+                (a .from + at-loop .loop .i),
+          )),
+    )
 
 returns : tie.Need-returns Inv-loop μ-loop
 returns c =
-    let e : c .before .loop .i ≡ 8 = omega (arith, c .before .loop .inv .0, c .loop-test .left) in
-    c .before .loop .inv .1 ∙ ap (λ (k : ℕ). numberIn (take k (drop (c .before .before .args .from) (c .before .before .args .job .now)))) e
+    let at-loop = c .before in
+    let st = at-loop .before in
+    let a = st .args in
+    let e : at-loop .loop .i ≡ 8 = omega (arith, at-loop .loop .inv .0, c .loop-test .left) in
+    at-loop .loop .inv .1 ∙ ap (λ (k : ℕ). numberIn (take k (drop (a .from) (a .job .now)))) e
 
 pub number-in-spec : {M : Type 1} → statement M
 number-in-spec =

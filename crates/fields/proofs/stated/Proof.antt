@@ -27,7 +27,11 @@ cast-result-2 : tie.Need-cast-result-2
 cast-result-2 c = fits-widen tt (c .shared-slice-known2 .given _)
 
 add-result-3 : tie.Need-add-result-3
-add-result-3 c = record { fits = two-bytes _ _ (c .before .shared-slice-known .given _) (c .shared-slice-known2 .given _) }
+add-result-3 c =
+    record {
+      fits = two-bytes _ _ (c .before .shared-slice-known .given _)
+          (c .shared-slice-known2 .given _);
+    }
 
 returns : tie.Need-returns
 returns c = search needs

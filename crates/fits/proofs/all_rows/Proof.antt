@@ -28,7 +28,8 @@ returns-3 c =
     let at-if1 = c .before in
     let st = at-if1 .before in
     let a = st .args in
-    third-tells (a .n) (a .a) (a .b) (a .c) (omega (arith, at-if1 .if1 .left)) (omega (arith, c .if2 .left))
+    third-tells (a .n) (a .a) (a .b) (a .c) (omega (arith, at-if1 .if1 .left))
+    (omega (arith, c .if2 .left))
 
 pub all-rows-spec : {M : Type 1} → statement M
 all-rows-spec = tie.close (tie.spec mul-top sub-top returns returns-2 returns-3)

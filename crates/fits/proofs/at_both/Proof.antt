@@ -11,17 +11,22 @@ touches-requires c κs =
 
 touches-requires-2 : tie.Need-touches-requires-2
 touches-requires-2 c κs =
-    c .before .before .before .pre .1
+    let st = c .before .before .before in
+    st .pre .1
 
 returns : tie.Need-returns
 returns c =
+    let at-if1 = c .before in
+    let at-touches = at-if1 .before in
     let s = c .before .before .before .before in
-    c .touches2 .ensures ∙ sym (ap (λ (b : Bool). b && tree-spec.touches (s .args .t .now) (s .args .y) (s .args .v)) (sym (c .before .before .touches .ensures) ∙ c .before .if1 .taken))
+    c .touches2 .ensures ∙ sym (ap (λ (b : Bool). b && tree-spec.touches (s .args .t .now)
+    (s .args .y) (s .args .v)) (sym (at-touches .touches .ensures) ∙ at-if1 .if1 .taken))
 
 returns-2 : tie.Need-returns-2
 returns-2 c =
     let s = c .before .before .before in
-    sym (ap (λ (b : Bool). b && tree-spec.touches (s .args .t .now) (s .args .y) (s .args .v)) (sym (c .before .touches .ensures) ∙ c .if1 .left))
+    sym (ap (λ (b : Bool). b && tree-spec.touches (s .args .t .now) (s .args .y) (s .args .v))
+    (sym (c .before .touches .ensures) ∙ c .if1 .left))
 
 pub at-both-spec : {M : Type 1} → statement M
 at-both-spec = tie.close (tie.spec touches-requires touches-requires-2 returns returns-2)

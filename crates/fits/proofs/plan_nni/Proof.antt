@@ -18,14 +18,16 @@ all-rows-requires c κs =
 returns : tie.Need-returns
 returns c =
     let at-all-rows = c .before in
-    says-8 _ _ _ _ (sym (at-all-rows .all-rows .ensures) ∙ not-true (at-all-rows .all-rows .result) (c .if1 .taken))
+    says-8 _ _ _ _ (sym (at-all-rows .all-rows .ensures) ∙ not-true (at-all-rows .all-rows .result)
+    (c .if1 .taken))
 
 nni-fits-requires : tie.Need-nni-fits-requires
 nni-fits-requires c κs =
     let at-all-rows = c .before in
     let st = at-all-rows .before .before in
     let a = st .args in
-    let right = sym (at-all-rows .all-rows .ensures) ∙ not-false (at-all-rows .all-rows .result) (c .if1 .left) in
+    let right = sym (at-all-rows .all-rows .ensures) ∙ not-false (at-all-rows .all-rows .result)
+    (c .if1 .left) in
     let rs = three-rows (a .n) (a .e) (a .x) (a .y) (st .pre .valid .big) right in
     (st .pre, rs .0, rs .1, rs .2)
 
@@ -34,8 +36,10 @@ returns-2 c =
     let at-nni-fits = c .before in
     let at-if1 = at-nni-fits .before in
     let at-all-rows = at-if1 .before in
-    let right = sym (at-all-rows .all-rows .ensures) ∙ not-false (at-all-rows .all-rows .result) (at-if1 .if1 .left) in
-    says-9 _ _ _ _ right (sym (at-nni-fits .nni-fits .ensures) ∙ not-true (at-nni-fits .nni-fits .result) (c .if2 .taken))
+    let right = sym (at-all-rows .all-rows .ensures) ∙ not-false (at-all-rows .all-rows .result)
+    (at-if1 .if1 .left) in
+    says-9 _ _ _ _ right (sym (at-nni-fits .nni-fits .ensures) ∙ not-true
+    (at-nni-fits .nni-fits .result) (c .if2 .taken))
 
 lo-requires : tie.Need-lo-requires
 lo-requires c κs =
@@ -43,7 +47,8 @@ lo-requires c κs =
     let at-all-rows = at-if1 .before in
     let st = at-all-rows .before .before in
     let a = st .args in
-    let right = sym (at-all-rows .all-rows .ensures) ∙ not-false (at-all-rows .all-rows .result) (at-if1 .if1 .left) in
+    let right = sym (at-all-rows .all-rows .ensures) ∙ not-false (at-all-rows .all-rows .result)
+    (at-if1 .if1 .left) in
     let rs = three-rows (a .n) (a .e) (a .x) (a .y) (st .pre .valid .big) right in
     omega (arith, rs .0, st .pre .valid .len)
 
@@ -56,7 +61,8 @@ hi-requires c κs =
     let at-all-rows = at-if1 .before in
     let st = at-all-rows .before .before in
     let a = st .args in
-    let right = sym (at-all-rows .all-rows .ensures) ∙ not-false (at-all-rows .all-rows .result) (at-if1 .if1 .left) in
+    let right = sym (at-all-rows .all-rows .ensures) ∙ not-false (at-all-rows .all-rows .result)
+    (at-if1 .if1 .left) in
     let rs = three-rows (a .n) (a .e) (a .x) (a .y) (st .pre .valid .big) right in
     omega (arith, rs .0, st .pre .valid .len)
 
@@ -74,9 +80,12 @@ returns-3 c =
     let at-all-rows = at-if1 .before in
     let st = at-all-rows .before .before in
     let a = st .args in
-    let right = sym (at-all-rows .all-rows .ensures) ∙ not-false (at-all-rows .all-rows .result) (at-if1 .if1 .left) in
-    let good = sym (at-nni-fits .nni-fits .ensures) ∙ not-false (at-nni-fits .nni-fits .result) (at-if2 .if2 .left) in
-    let first = at-to-stay .to-stay .ensures ∙ ap (λ (v : ℕ). toStay v (a .x)) (at-lo .lo .ensures) in
+    let right = sym (at-all-rows .all-rows .ensures) ∙ not-false (at-all-rows .all-rows .result)
+    (at-if1 .if1 .left) in
+    let good = sym (at-nni-fits .nni-fits .ensures) ∙ not-false (at-nni-fits .nni-fits .result)
+    (at-if2 .if2 .left) in
+    let first = at-to-stay .to-stay .ensures ∙ ap (λ (v : ℕ). toStay v (a .x))
+    (at-lo .lo .ensures) in
     let second = c .to-stay2 .ensures ∙ ap (λ (v : ℕ). toStay v (a .y)) (at-hi .hi .ensures) in
     ap gives (plan-is first second) ∙ says-plan _ _ _ _ right good refl
 

@@ -38,7 +38,8 @@ returns-2 c =
     let at-if2 = at-if3 .before in
     let st = at-if2 .before .before .before .before .before .before .before in
     let a = st .args in
-    c .plan-spr .ensures ∙ by-spr (a .n) (a .t .now) (moveOf (a .m)) (at-if2 .if2 .taken) (at-if3 .if3 .taken)
+    c .plan-spr .ensures ∙ by-spr (a .n) (a .t .now) (moveOf (a .m)) (at-if2 .if2 .taken)
+    (at-if3 .if3 .taken)
 
 returns-3 : tie.Need-returns-3
 returns-3 c =
@@ -65,7 +66,8 @@ returns-5 c =
     let at-if1 = at-if2 .before in
     let st = at-if1 .before .before .before .before .before .before in
     let a = st .args in
-    no-kind (a .n) (a .t .now) (moveOf (a .m)) (at-if1 .if1 .left) (at-if2 .if2 .left) (c .if4 .left)
+    no-kind (a .n) (a .t .now) (moveOf (a .m)) (at-if1 .if1 .left) (at-if2 .if2 .left)
+    (c .if4 .left)
 
 pub plan-of-spec : {M : Type 1} → statement M
 plan-of-spec =

@@ -42,7 +42,8 @@ end-with-requires c κs =
     let at-all-rows = at-if1 .before in
     let st = at-all-rows .before .before .before in
     let a = st .args in
-    let right = sym (at-all-rows .all-rows .ensures) ∙ not-false (at-all-rows .all-rows .result) (at-if1 .if1 .left) in
+    let right = sym (at-all-rows .all-rows .ensures) ∙ not-false (at-all-rows .all-rows .result)
+    (at-if1 .if1 .left) in
     let rs = three-rows (a .n) (a .a) (a .b) 0 (st .pre .good .valid .big) right in
     (st .pre, rs .0, rs .1, c .if2 .left)
 
@@ -52,7 +53,8 @@ to-go-requires c κs =
     let at-all-rows = at-if1 .before in
     let st = at-all-rows .before .before .before in
     let a = st .args in
-    let right = sym (at-all-rows .all-rows .ensures) ∙ not-false (at-all-rows .all-rows .result) (at-if1 .if1 .left) in
+    let right = sym (at-all-rows .all-rows .ensures) ∙ not-false (at-all-rows .all-rows .result)
+    (at-if1 .if1 .left) in
     let rs = three-rows (a .n) (a .a) (a .b) 0 (st .pre .good .valid .big) right in
     omega (arith, rs .1, st .pre .good .valid .len)
 
@@ -65,8 +67,10 @@ returns-3 c =
     let at-all-rows = at-if1 .before in
     let st = at-all-rows .before .before .before in
     let a = st .args in
-    let right = sym (at-all-rows .all-rows .ensures ∙ two-rows (a .n) (a .a) (a .b)) ∙ not-false (at-all-rows .all-rows .result) (at-if1 .if1 .left) in
-    let first = at-to-go .to-go .ensures ∙ ap (λ (v : ℕ). toGo (a .t .now) v (a .b)) (at-end-with .end-with .ensures) in
+    let right = sym (at-all-rows .all-rows .ensures ∙ two-rows (a .n) (a .a) (a .b)) ∙ not-false
+    (at-all-rows .all-rows .result) (at-if1 .if1 .left) in
+    let first = at-to-go .to-go .ensures ∙ ap (λ (v : ℕ). toGo (a .t .now) v (a .b))
+    (at-end-with .end-with .ensures) in
     let idle = not-true (at-to-go .to-go .result .goes) (c .if3 .taken) in
     says-10 _ _ _ _ right (ap not (ne-eqb (a .a) (a .b) (at-if2 .if2 .left)))
     (sym (ap (λ (s : Side). s .goes) first) ∙ idle)
@@ -77,7 +81,8 @@ far-requires c κs =
     let at-all-rows = at-if1 .before in
     let st = at-all-rows .before .before .before in
     let a = st .args in
-    let right = sym (at-all-rows .all-rows .ensures) ∙ not-false (at-all-rows .all-rows .result) (at-if1 .if1 .left) in
+    let right = sym (at-all-rows .all-rows .ensures) ∙ not-false (at-all-rows .all-rows .result)
+    (at-if1 .if1 .left) in
     let rs = three-rows (a .n) (a .a) (a .b) 0 (st .pre .good .valid .big) right in
     omega (arith, rs .0, st .pre .good .valid .len)
 
@@ -95,12 +100,16 @@ returns-4 c =
     let at-all-rows = at-if1 .before in
     let st = at-all-rows .before .before .before in
     let a = st .args in
-    let right = sym (at-all-rows .all-rows .ensures ∙ two-rows (a .n) (a .a) (a .b)) ∙ not-false (at-all-rows .all-rows .result) (at-if1 .if1 .left) in
-    let first = at-to-go .to-go .ensures ∙ ap (λ (v : ℕ). toGo (a .t .now) v (a .b)) (at-end-with .end-with .ensures) in
+    let right = sym (at-all-rows .all-rows .ensures ∙ two-rows (a .n) (a .a) (a .b)) ∙ not-false
+    (at-all-rows .all-rows .result) (at-if1 .if1 .left) in
+    let first = at-to-go .to-go .ensures ∙ ap (λ (v : ℕ). toGo (a .t .now) v (a .b))
+    (at-end-with .end-with .ensures) in
     let second = c .to-stay .ensures
-    ∙ ap (λ (v : ℕ). toStay v (a .b)) (at-far .far .ensures ∙ ap (far (a .t .now) (a .a)) (at-end-with .end-with .ensures)) in
+    ∙ ap (λ (v : ℕ). toStay v (a .b)) (at-far .far .ensures ∙ ap (far (a .t .now) (a .a))
+    (at-end-with .end-with .ensures)) in
     let goes = not-false (at-to-go .to-go .result .goes) (at-if3 .if3 .left) in
-    ap gives (plan-is first second) ∙ says-plan _ _ _ _ right (ap not (ne-eqb (a .a) (a .b) (at-if2 .if2 .left)))
+    ap gives (plan-is first second) ∙ says-plan _ _ _ _ right
+    (ap not (ne-eqb (a .a) (a .b) (at-if2 .if2 .left)))
     (sym (ap (λ (s : Side). s .goes) first) ∙ goes)
 
 pub plan-spr-spec : {M : Type 1} → statement M

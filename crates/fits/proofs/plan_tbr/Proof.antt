@@ -19,14 +19,16 @@ all-rows-requires c κs =
 returns : tie.Need-returns
 returns c =
     let at-all-rows = c .before in
-    says-8 _ _ _ _ (sym (at-all-rows .all-rows .ensures) ∙ not-true (at-all-rows .all-rows .result) (c .if1 .taken))
+    says-8 _ _ _ _ (sym (at-all-rows .all-rows .ensures) ∙ not-true (at-all-rows .all-rows .result)
+    (c .if1 .taken))
 
 tbr-fits-requires : tie.Need-tbr-fits-requires
 tbr-fits-requires c κs =
     let at-all-rows = c .before in
     let st = at-all-rows .before .before .before in
     let a = st .args in
-    let right = sym (at-all-rows .all-rows .ensures) ∙ not-false (at-all-rows .all-rows .result) (c .if1 .left) in
+    let right = sym (at-all-rows .all-rows .ensures) ∙ not-false (at-all-rows .all-rows .result)
+    (c .if1 .left) in
     let rs = three-rows (a .n) (a .a) (a .b) (a .c) (st .pre .good .valid .big) right in
     (st .pre, rs .0, rs .1, rs .2)
 
@@ -35,8 +37,10 @@ returns-2 c =
     let at-tbr-fits = c .before in
     let at-if1 = at-tbr-fits .before in
     let at-all-rows = at-if1 .before in
-    let right = sym (at-all-rows .all-rows .ensures) ∙ not-false (at-all-rows .all-rows .result) (at-if1 .if1 .left) in
-    says-9 _ _ _ _ right (sym (at-tbr-fits .tbr-fits .ensures) ∙ not-true (at-tbr-fits .tbr-fits .result) (c .if2 .taken))
+    let right = sym (at-all-rows .all-rows .ensures) ∙ not-false (at-all-rows .all-rows .result)
+    (at-if1 .if1 .left) in
+    says-9 _ _ _ _ right (sym (at-tbr-fits .tbr-fits .ensures) ∙ not-true
+    (at-tbr-fits .tbr-fits .result) (c .if2 .taken))
 
 lo-requires : tie.Need-lo-requires
 lo-requires c κs =
@@ -44,7 +48,8 @@ lo-requires c κs =
     let at-all-rows = at-if1 .before in
     let st = at-all-rows .before .before .before in
     let a = st .args in
-    let right = sym (at-all-rows .all-rows .ensures) ∙ not-false (at-all-rows .all-rows .result) (at-if1 .if1 .left) in
+    let right = sym (at-all-rows .all-rows .ensures) ∙ not-false (at-all-rows .all-rows .result)
+    (at-if1 .if1 .left) in
     let rs = three-rows (a .n) (a .a) (a .b) (a .c) (st .pre .good .valid .big) right in
     omega (arith, rs .0, st .pre .good .valid .len)
 
@@ -54,7 +59,8 @@ hi-requires c κs =
     let at-all-rows = at-if1 .before in
     let st = at-all-rows .before .before .before in
     let a = st .args in
-    let right = sym (at-all-rows .all-rows .ensures) ∙ not-false (at-all-rows .all-rows .result) (at-if1 .if1 .left) in
+    let right = sym (at-all-rows .all-rows .ensures) ∙ not-false (at-all-rows .all-rows .result)
+    (at-if1 .if1 .left) in
     let rs = three-rows (a .n) (a .a) (a .b) (a .c) (st .pre .good .valid .big) right in
     omega (arith, rs .0, st .pre .good .valid .len)
 
@@ -64,9 +70,12 @@ at-both-requires c κs =
     let at-all-rows = at-if1 .before in
     let st = at-all-rows .before .before .before in
     let a = st .args in
-    let right = sym (at-all-rows .all-rows .ensures) ∙ not-false (at-all-rows .all-rows .result) (at-if1 .if1 .left) in
-    let rs = three-rows (a .n) (a .a) (a .b) (a .c) (st .pre .good .valid .big) right in
-    (omega (arith, rs .1, st .pre .good .valid .len), omega (arith, rs .2, st .pre .good .valid .len))
+    let right = sym (at-all-rows .all-rows .ensures) ∙ not-false (at-all-rows .all-rows .result)
+    (at-if1 .if1 .left) in
+    let rs = three-rows (a .n) (a .a) (a .b) (a .c) (st .pre .good .valid .big) right in (
+      omega (arith, rs .1, st .pre .good .valid .len),
+      omega (arith, rs .2, st .pre .good .valid .len),
+    )
 
 returns-3 : tie.Need-returns-3
 returns-3 c =
@@ -79,9 +88,12 @@ returns-3 c =
     let at-all-rows = at-if1 .before in
     let st = at-all-rows .before .before .before in
     let a = st .args in
-    let right = sym (at-all-rows .all-rows .ensures) ∙ not-false (at-all-rows .all-rows .result) (at-if1 .if1 .left) in
-    let good = sym (at-tbr-fits .tbr-fits .ensures) ∙ not-false (at-tbr-fits .tbr-fits .result) (at-if2 .if2 .left) in
-    let same = ap₂ (λ (u v : ℕ). atBoth (a .t .now) (a .b) u (a .c) v) (at-lo .lo .ensures) (at-hi .hi .ensures) in
+    let right = sym (at-all-rows .all-rows .ensures) ∙ not-false (at-all-rows .all-rows .result)
+    (at-if1 .if1 .left) in
+    let good = sym (at-tbr-fits .tbr-fits .ensures) ∙ not-false (at-tbr-fits .tbr-fits .result)
+    (at-if2 .if2 .left) in
+    let same = ap₂ (λ (u v : ℕ). atBoth (a .t .now) (a .b) u (a .c) v) (at-lo .lo .ensures)
+    (at-hi .hi .ensures) in
     says-10 _ _ _ _ right good (ap not (sym (at-at-both .at-both .ensures ∙ same) ∙ c .if3 .taken))
 
 to-go-requires : tie.Need-to-go-requires
@@ -90,7 +102,8 @@ to-go-requires c κs =
     let at-all-rows = at-if1 .before in
     let st = at-all-rows .before .before .before in
     let a = st .args in
-    let right = sym (at-all-rows .all-rows .ensures) ∙ not-false (at-all-rows .all-rows .result) (at-if1 .if1 .left) in
+    let right = sym (at-all-rows .all-rows .ensures) ∙ not-false (at-all-rows .all-rows .result)
+    (at-if1 .if1 .left) in
     let rs = three-rows (a .n) (a .a) (a .b) (a .c) (st .pre .good .valid .big) right in
     omega (arith, rs .1, st .pre .good .valid .len)
 
@@ -100,7 +113,8 @@ to-go-requires-2 c κs =
     let at-all-rows = at-if1 .before in
     let st = at-all-rows .before .before .before in
     let a = st .args in
-    let right = sym (at-all-rows .all-rows .ensures) ∙ not-false (at-all-rows .all-rows .result) (at-if1 .if1 .left) in
+    let right = sym (at-all-rows .all-rows .ensures) ∙ not-false (at-all-rows .all-rows .result)
+    (at-if1 .if1 .left) in
     let rs = three-rows (a .n) (a .a) (a .b) (a .c) (st .pre .good .valid .big) right in
     omega (arith, rs .2, st .pre .good .valid .len)
 
@@ -117,13 +131,19 @@ returns-4 c =
     let at-all-rows = at-if1 .before in
     let st = at-all-rows .before .before .before in
     let a = st .args in
-    let right = sym (at-all-rows .all-rows .ensures) ∙ not-false (at-all-rows .all-rows .result) (at-if1 .if1 .left) in
-    let good = sym (at-tbr-fits .tbr-fits .ensures) ∙ not-false (at-tbr-fits .tbr-fits .result) (at-if2 .if2 .left) in
-    let same = ap₂ (λ (u v : ℕ). atBoth (a .t .now) (a .b) u (a .c) v) (at-lo .lo .ensures) (at-hi .hi .ensures) in
-    let first = at-to-go .to-go .ensures ∙ ap (λ (v : ℕ). toGo (a .t .now) v (a .b)) (at-lo .lo .ensures) in
-    let second = c .to-go2 .ensures ∙ ap (λ (v : ℕ). toGo (a .t .now) v (a .c)) (at-hi .hi .ensures) in
+    let right = sym (at-all-rows .all-rows .ensures) ∙ not-false (at-all-rows .all-rows .result)
+    (at-if1 .if1 .left) in
+    let good = sym (at-tbr-fits .tbr-fits .ensures) ∙ not-false (at-tbr-fits .tbr-fits .result)
+    (at-if2 .if2 .left) in
+    let same = ap₂ (λ (u v : ℕ). atBoth (a .t .now) (a .b) u (a .c) v) (at-lo .lo .ensures)
+    (at-hi .hi .ensures) in
+    let first = at-to-go .to-go .ensures ∙ ap (λ (v : ℕ). toGo (a .t .now) v (a .b))
+    (at-lo .lo .ensures) in
+    let second = c .to-go2 .ensures ∙ ap (λ (v : ℕ). toGo (a .t .now) v (a .c))
+    (at-hi .hi .ensures) in
     ap gives (plan-is first second)
-    ∙ says-plan _ _ _ _ right good (ap not (sym (at-at-both .at-both .ensures ∙ same) ∙ at-if3 .if3 .left))
+    ∙ says-plan _ _ _ _ right good (ap not (sym (at-at-both .at-both .ensures ∙ same)
+    ∙ at-if3 .if3 .left))
 
 pub plan-tbr-spec : {M : Type 1} → statement M
 plan-tbr-spec =

@@ -16,7 +16,8 @@ is-target-requires : tie.Need-is-target-requires
 is-target-requires c κs =
     let st = c .before .before .before in
     let a = st .args in (
-      lo-end (a .n) (a .t .now) (a .a) (c .lo .result) (st .pre .0 .good) (st .pre .1) (c .lo .ensures),
+      lo-end (a .n) (a .t .now) (a .a) (c .lo .result) (st .pre .0 .good) (st .pre .1)
+          (c .lo .ensures),
       st .pre .0 .sides,
       st .pre .2,
     )
@@ -30,7 +31,8 @@ is-target-requires-2 : tie.Need-is-target-requires-2
 is-target-requires-2 c κs =
     let st = c .before .before .before .before .before .before in
     let a = st .args in (
-      hi-end (a .n) (a .t .now) (a .a) (c .hi .result) (st .pre .0 .good) (st .pre .1) (c .hi .ensures),
+      hi-end (a .n) (a .t .now) (a .a) (c .hi .result) (st .pre .0 .good) (st .pre .1)
+          (c .hi .ensures),
       st .pre .0 .sides,
       st .pre .3,
     )
@@ -43,8 +45,10 @@ returns c =
     let at-lo = at-is-target .before in
     let st = at-lo .before .before .before in
     let a = st .args in
-    let first = sym (at-is-target .is-target .ensures ∙ ap (λ (v : ℕ). target (a .n) (a .t .now) (a .a) v (a .b)) (at-lo .lo .ensures)) in
-    let second = c .is-target2 .ensures ∙ ap (λ (v : ℕ). target (a .n) (a .t .now) (a .a) v (a .c)) (at-hi .hi .ensures) in
+    let first = sym (at-is-target .is-target .ensures ∙ ap (λ (v : ℕ). target (a .n) (a .t .now)
+    (a .a) v (a .b)) (at-lo .lo .ensures)) in
+    let second = c .is-target2 .ensures ∙ ap (λ (v : ℕ). target (a .n) (a .t .now) (a .a) v (a .c))
+    (at-hi .hi .ensures) in
     second ∙ both-targets (a .n) (a .t .now) (a .a) (a .b) (a .c) (first ∙ at-if1 .if1 .taken)
 
 returns-2 : tie.Need-returns-2
@@ -53,7 +57,8 @@ returns-2 c =
     let at-lo = at-is-target .before in
     let st = at-lo .before .before .before in
     let a = st .args in
-    let first = sym (at-is-target .is-target .ensures ∙ ap (λ (v : ℕ). target (a .n) (a .t .now) (a .a) v (a .b)) (at-lo .lo .ensures)) in
+    let first = sym (at-is-target .is-target .ensures ∙ ap (λ (v : ℕ). target (a .n) (a .t .now)
+    (a .a) v (a .b)) (at-lo .lo .ensures)) in
     no-target (a .n) (a .t .now) (a .a) (a .b) (a .c) (first ∙ c .if1 .left)
 
 pub tbr-fits-spec : {M : Type 1} → statement M

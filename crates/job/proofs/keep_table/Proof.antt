@@ -25,7 +25,8 @@ returns c =
     let at-check-tree = at-answer .before .before in
     let st = at-check-tree .before .before .before in
     let a = st .args in
-    let no = sym (at-check-tree .check-tree .ensures .says) ∙ ap checkSays (at-answer .answer .given .1) in
+    let no = sym (at-check-tree .check-tree .ensures .says) ∙ ap checkSays
+    (at-answer .answer .given .1) in
     call-refusesAt _ (a .at)
     (kept-refused (a .at) (a .n) (a .t .now) (a .table .now) (st .pre .1) (st .pre .2) _ no)
 
@@ -39,7 +40,8 @@ returns-2 c =
     let at-check-tree = at-enum-told .before .before in
     let st = at-check-tree .before .before .before in
     let a = st .args in
-    let yes = sym (at-check-tree .check-tree .ensures .says) ∙ ap checkSays (at-enum-told .enum-told .given .1) in
+    let yes = sym (at-check-tree .check-tree .ensures .says) ∙ ap checkSays
+    (at-enum-told .enum-told .given .1) in
     call-is (kept-put (a .at) (a .n) (a .t .now) (a .table .now) (st .pre .1) (st .pre .2) yes)
     (at-put-table .put-table .ensures)
 

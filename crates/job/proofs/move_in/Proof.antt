@@ -27,7 +27,9 @@ shared-slice-read-t13 c = search needs
 
 returns : tie.Need-returns
 returns c =
-    move-read (c .before .before .before .before .args .job .now) (c .before .before .before .before .args .from)
+    let st = c .before .before .before .before in
+    let a = st .args in
+    move-read (a .job .now) (a .from)
 
 pub move-in-spec : {M : Type 1} → statement M
 move-in-spec =

@@ -31,7 +31,8 @@ returns-2 c =
     let at-if1 = at-copy .before .before in
     let st = at-if1 .before .before .before in
     let a = st .args in
-    put-next (a .at) (a .n) (a .t .now) (a .table .now) (at-if1 .if1 .left) _ (at-copy .copy .ensures .0) _
+    put-next (a .at) (a .n) (a .t .now) (a .table .now) (at-if1 .if1 .left) _
+    (at-copy .copy .ensures .0) _
     (at-copy .copy .ensures .1)
 
 pub put-table-spec : {M : Type 1} → statement M

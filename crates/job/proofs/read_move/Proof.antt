@@ -20,9 +20,11 @@ returns c =
     let at-length-right = c .before in
     let st = at-length-right .before .before .before .before .before in
     let a = st .args in
-    let no = sym (at-length-right .length-right .ensures) ∙ not-true (at-length-right .length-right .result) (c .if1 .taken) in
+    let no = sym (at-length-right .length-right .ensures) ∙ not-true
+    (at-length-right .length-right .result) (c .if1 .taken) in
     call-refusesAt Refusal.Field (a .s .at)
-    (move-12 (a .job .now) (a .s) (a .table .now) (a .parts .now) (a .out .now) (st .pre .2) (st .pre .1) no)
+    (move-12 (a .job .now) (a .s) (a .table .now) (a .parts .now) (a .out .now) (st .pre .2)
+    (st .pre .1) no)
 
 add-move-in : tie.Need-add-move-in
 add-move-in c = search needs
@@ -32,7 +34,8 @@ move-in-requires c κs =
     let at-length-right = c .before in
     let st = at-length-right .before .before .before .before .before in
     let a = st .args in
-    let whole = sym (at-length-right .length-right .ensures) ∙ not-false (at-length-right .length-right .result) (c .if1 .left) in
+    let whole = sym (at-length-right .length-right .ensures) ∙ not-false
+    (at-length-right .length-right .result) (c .if1 .left) in
     omega (arith, reaches (a .job .now) (a .s .at) 4 whole)
 
 table-bytes-requires : tie.Need-table-bytes-requires
@@ -52,7 +55,8 @@ slice-aggregate-list-move c =
     let at-table-bytes = c .before .before in
     let st = at-table-bytes .before .before .before .before .before .before .before .before in
     let a = st .args in
-    table-part (a .job .now) (a .s) (a .table .now) (a .parts .now) (a .out .now) (st .pre .2) (st .pre .1)
+    table-part (a .job .now) (a .s) (a .table .now) (a .parts .now) (a .out .now) (st .pre .2)
+    (st .pre .1)
     (at-table-bytes .table-bytes .result) (at-table-bytes .table-bytes .ensures)
 
 slice-aggregate-list-move-2 : tie.Need-slice-aggregate-list-move-2
@@ -89,9 +93,12 @@ returns-2 c =
     let at-length-right = at-if1 .before in
     let st = at-length-right .before .before .before .before .before in
     let a = st .args in
-    let whole = sym (at-length-right .length-right .ensures) ∙ not-false (at-length-right .length-right .result) (at-if1 .if1 .left) in
-    refused-there (a .job .now) (a .s) (a .table .now) (a .parts .now) (a .out .now) (st .pre .2) (st .pre .1) whole
-    (at-table-bytes .table-bytes .result) (at-table-bytes .table-bytes .ensures) (moveOf (at-move-in .move-in .result))
+    let whole = sym (at-length-right .length-right .ensures) ∙ not-false
+    (at-length-right .length-right .result) (at-if1 .if1 .left) in
+    refused-there (a .job .now) (a .s) (a .table .now) (a .parts .now) (a .out .now) (st .pre .2)
+    (st .pre .1) whole
+    (at-table-bytes .table-bytes .result) (at-table-bytes .table-bytes .ensures)
+    (moveOf (at-move-in .move-in .result))
     (at-move-in .move-in .ensures) (at-r .r .given .1) (at-list-move .list-move .ensures)
 
 same-length-3 : tie.Need-same-length-3
@@ -110,9 +117,12 @@ returns-3 c =
     let at-length-right = at-if1 .before in
     let st = at-length-right .before .before .before .before .before in
     let a = st .args in
-    let whole = sym (at-length-right .length-right .ensures) ∙ not-false (at-length-right .length-right .result) (at-if1 .if1 .left) in
-    done-there (a .job .now) (a .s) (a .table .now) (a .parts .now) (a .out .now) (st .pre .2) (st .pre .1) whole
-    (at-table-bytes .table-bytes .result) (at-table-bytes .table-bytes .ensures) (moveOf (at-move-in .move-in .result))
+    let whole = sym (at-length-right .length-right .ensures) ∙ not-false
+    (at-length-right .length-right .result) (at-if1 .if1 .left) in
+    done-there (a .job .now) (a .s) (a .table .now) (a .parts .now) (a .out .now) (st .pre .2)
+    (st .pre .1) whole
+    (at-table-bytes .table-bytes .result) (at-table-bytes .table-bytes .ensures)
+    (moveOf (at-move-in .move-in .result))
     (at-move-in .move-in .ensures) (at-e .e .given .1) (at-list-move .list-move .ensures)
 
 pub read-move-spec : {M : Type 1} → statement M

@@ -25,7 +25,8 @@ returns c =
     let st = at-if1 .before .before .before .before .before in
     let a = st .args in
     let m = lending (a .table .now) (a .parts .now) (a .out .now) in
-    end-gives (a .job .now) (a .s) m (c .read-end .result) (at-if1 .if1 .taken) (c .read-end .ensures)
+    end-gives (a .job .now) (a .s) m (c .read-end .result) (at-if1 .if1 .taken)
+    (c .read-end .ensures)
 
 shared-slice-read-tag : tie.Need-shared-slice-read-tag
 shared-slice-read-tag c = search needs
@@ -71,7 +72,8 @@ returns-3 c =
     let m = lending (a .table .now) (a .parts .now) (a .out .now) in
     let seen = at-seen-before .seen-before in
     let yes = sym (seen .ensures) ∙ not-false (seen .result) (at-if2 .if2 .left) in
-    let no = sym (at-allowed .allowed .ensures) ∙ not-true (at-allowed .allowed .result) (c .if3 .taken) in
+    let no = sym (at-allowed .allowed .ensures) ∙ not-true (at-allowed .allowed .result)
+    (c .if3 .taken) in
     call-refusesAt Refusal.Field (a .s .at)
     (tag-12 (a .job .now) (a .s) m (st .pre .1) (at-if1 .if1 .left) yes no)
 
@@ -81,7 +83,8 @@ read-field-requires c κs =
     let at-allowed = at-if3 .before in
     let at-if1 = at-allowed .before .before .before .before .before in
     let st = at-if1 .before .before .before .before .before in
-    let may = sym (at-allowed .allowed .ensures) ∙ not-false (at-allowed .allowed .result) (at-if3 .if3 .left) in
+    let may = sym (at-allowed .allowed .ensures) ∙ not-false (at-allowed .allowed .result)
+    (at-if3 .if3 .left) in
     (at-if1 .if1 .left, st .pre .0, st .pre .1, may)
 
 same-length-4 : tie.Need-same-length-4
@@ -106,7 +109,8 @@ returns-4 c =
     let m = lending (a .table .now) (a .parts .now) (a .out .now) in
     let seen = at-seen-before .seen-before in
     let yes = sym (seen .ensures) ∙ not-false (seen .result) (at-if2 .if2 .left) in
-    let may = sym (at-allowed .allowed .ensures) ∙ not-false (at-allowed .allowed .result) (at-if3 .if3 .left) in
+    let may = sym (at-allowed .allowed .ensures) ∙ not-false (at-allowed .allowed .result)
+    (at-if3 .if3 .left) in
     call-is (tag-next (a .job .now) (a .s) m (st .pre .1) (at-if1 .if1 .left) yes may)
     (at-read-field .read-field .ensures)
 

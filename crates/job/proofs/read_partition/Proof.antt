@@ -17,7 +17,8 @@ returns c =
     let at-length-right = c .before in
     let st = at-length-right .before .before .before in
     let a = st .args in
-    let no = sym (at-length-right .length-right .ensures) ∙ not-true (at-length-right .length-right .result) (c .if1 .taken) in
+    let no = sym (at-length-right .length-right .ensures) ∙ not-true
+    (at-length-right .length-right .result) (c .if1 .taken) in
     call-refusesAt Refusal.Field (a .s .at) (part-12 (a .job .now) (a .s) (a .parts .now) no)
 
 add-number-in : tie.Need-add-number-in
@@ -28,7 +29,8 @@ number-in-requires c κs =
     let at-length-right = c .before in
     let st = at-length-right .before .before .before in
     let a = st .args in
-    let whole = sym (at-length-right .length-right .ensures) ∙ not-false (at-length-right .length-right .result) (c .if1 .left) in
+    let whole = sym (at-length-right .length-right .ensures) ∙ not-false
+    (at-length-right .length-right .result) (c .if1 .left) in
     omega (arith, reaches (a .job .now) (a .s .at) 8 whole)
 
 within-requires : tie.Need-within-requires
@@ -42,8 +44,10 @@ returns-2 c =
     let at-length-right = at-if1 .before in
     let st = at-length-right .before .before .before in
     let a = st .args in
-    let whole = sym (at-length-right .length-right .ensures) ∙ not-false (at-length-right .length-right .result) (at-if1 .if1 .left) in
-    let no = sym (at-within .within .ensures) ∙ not-true (at-within .within .result) (c .if2 .taken) in
+    let whole = sym (at-length-right .length-right .ensures) ∙ not-false
+    (at-length-right .length-right .result) (at-if1 .if1 .left) in
+    let no = sym (at-within .within .ensures) ∙ not-true (at-within .within .result)
+    (c .if2 .taken) in
     call-refusesAt Refusal.Partition (a .s .at)
     (part-6 (a .job .now) (a .s) (a .parts .now) whole _ (at-number-in .number-in .ensures) no)
 
@@ -59,10 +63,13 @@ returns-3 c =
     let at-length-right = at-if1 .before in
     let st = at-length-right .before .before .before in
     let a = st .args in
-    let whole = sym (at-length-right .length-right .ensures) ∙ not-false (at-length-right .length-right .result) (at-if1 .if1 .left) in
-    let yes = sym (at-within .within .ensures) ∙ not-false (at-within .within .result) (at-if2 .if2 .left) in
+    let whole = sym (at-length-right .length-right .ensures) ∙ not-false
+    (at-length-right .length-right .result) (at-if1 .if1 .left) in
+    let yes = sym (at-within .within .ensures) ∙ not-false (at-within .within .result)
+    (at-if2 .if2 .left) in
     call-refusesAt Refusal.Room (a .s .at)
-    (part-11 (a .job .now) (a .s) (a .parts .now) whole _ (at-number-in .number-in .ensures) yes (st .pre .3) (search needs))
+    (part-11 (a .job .now) (a .s) (a .parts .now) whole _ (at-number-in .number-in .ensures) yes
+    (st .pre .3) (search needs))
 
 mul-parts : tie.Need-mul-parts
 mul-parts c = search needs
@@ -88,9 +95,12 @@ returns-4 c =
     let at-length-right = at-if1 .before in
     let st = at-length-right .before .before .before in
     let a = st .args in
-    let whole = sym (at-length-right .length-right .ensures) ∙ not-false (at-length-right .length-right .result) (at-if1 .if1 .left) in
-    let yes = sym (at-within .within .ensures) ∙ not-false (at-within .within .result) (at-if2 .if2 .left) in
-    part-next (a .job .now) (a .s) (a .parts .now) whole _ (at-number-in .number-in .ensures) yes (st .pre .3) (search needs)
+    let whole = sym (at-length-right .length-right .ensures) ∙ not-false
+    (at-length-right .length-right .result) (at-if1 .if1 .left) in
+    let yes = sym (at-within .within .ensures) ∙ not-false (at-within .within .result)
+    (at-if2 .if2 .left) in
+    part-next (a .job .now) (a .s) (a .parts .now) whole _ (at-number-in .number-in .ensures) yes
+    (st .pre .3) (search needs)
 
 pub read-partition-spec : {M : Type 1} → statement M
 read-partition-spec =

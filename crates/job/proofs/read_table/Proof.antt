@@ -36,7 +36,8 @@ returns-3 c =
     let st = c .before .before .before .before .before .before .before in
     let a = st .args in
     call-refusesAt Refusal.Field (a .at)
-    (table-cut (a .job .now) (a .at) (a .n) (a .table .now) (search needs) (search needs) (search needs))
+    (table-cut (a .job .now) (a .at) (a .n) (a .table .now) (search needs) (search needs)
+    (search needs))
 
 add-from : tie.Need-add-from
 add-from c = search needs
@@ -67,7 +68,8 @@ returns-4 c =
     let a = st .args in
     let l = at-table-bytes .table-bytes .result in
     let from = a .at + 3 in
-    call-is (table-kept (a .job .now) (a .at) (a .n) (a .table .now) (search needs) (search needs) (search needs)
+    call-is (table-kept (a .job .now) (a .at) (a .n) (a .table .now) (search needs) (search needs)
+    (search needs)
     (from + l - from) (omega (arith, at-table-bytes .table-bytes .ensures)))
     (at-keep-table .keep-table .ensures)
 

@@ -13,14 +13,26 @@ length-right-requires c κs = search needs
 
 returns : tie.Need-returns
 returns c =
-    taxa-12 (c .before .before .before .args .job .now) (c .before .before .before .args .at) (sym (c .before .length-right .ensures) ∙ not-true (c .before .length-right .result) (c .if1 .taken))
+    let at-length-right = c .before in
+    let st = at-length-right .before .before in
+    let a = st .args in
+    taxa-12 (a .job .now) (a .at) (sym (at-length-right .length-right .ensures) ∙ not-true
+    (at-length-right .length-right .result) (c .if1 .taken))
 
 add-n : tie.Need-add-n
 add-n c = search needs
 
 shared-slice-read-n : tie.Need-shared-slice-read-n
 shared-slice-read-n c =
-    omega (arith, reaches (c .before .before .before .before .args .job .now) (c .before .before .before .before .args .at) 1 (sym (c .before .before .length-right .ensures) ∙ not-false (c .before .before .length-right .result) (c .before .if1 .left)))
+    let at-if1 = c .before in
+    let at-length-right = at-if1 .before in
+    let st = at-length-right .before .before in
+    let a = st .args in
+    omega (
+      arith,
+      reaches (a .job .now) (a .at) 1 (sym (at-length-right .length-right .ensures)
+          ∙ not-false (at-length-right .length-right .result) (at-if1 .if1 .left)),
+    )
 
 cast-n : tie.Need-cast-n
 cast-n c =
@@ -28,18 +40,33 @@ cast-n c =
 
 returns-2 : tie.Need-returns-2
 returns-2 c =
-    taxa-1-low (c .before .before .before .before .before .args .job .now) (c .before .before .before .before .before .args .at) (sym (c .before .before .before .length-right .ensures) ∙ not-false (c .before .before .before .length-right .result) (c .before .before .if1 .left)) (search needs)
+    let at-if1 = c .before .before in
+    let at-length-right = at-if1 .before in
+    let st = at-length-right .before .before in
+    let a = st .args in
+    taxa-1-low (a .job .now) (a .at) (sym (at-length-right .length-right .ensures) ∙ not-false
+    (at-length-right .length-right .result) (at-if1 .if1 .left)) (search needs)
 
 returns-3 : tie.Need-returns-3
 returns-3 c =
-    taxa-1-high (c .before .before .before .before .before .before .args .job .now) (c .before .before .before .before .before .before .args .at) (sym (c .before .before .before .before .length-right .ensures) ∙ not-false (c .before .before .before .before .length-right .result) (c .before .before .before .if1 .left)) (search needs)
+    let at-if1 = c .before .before .before in
+    let at-length-right = at-if1 .before in
+    let st = at-length-right .before .before in
+    let a = st .args in
+    taxa-1-high (a .job .now) (a .at) (sym (at-length-right .length-right .ensures) ∙ not-false
+    (at-length-right .length-right .result) (at-if1 .if1 .left)) (search needs)
 
 add-t7 : tie.Need-add-t7
 add-t7 c = search needs
 
 returns-4 : tie.Need-returns-4
 returns-4 c =
-    taxa-next (c .before .before .before .before .before .before .args .job .now) (c .before .before .before .before .before .before .args .at) (sym (c .before .before .before .before .length-right .ensures) ∙ not-false (c .before .before .before .before .length-right .result) (c .before .before .before .if1 .left)) (search needs) (search needs)
+    let at-if1 = c .before .before .before in
+    let at-length-right = at-if1 .before in
+    let st = at-length-right .before .before in
+    let a = st .args in
+    taxa-next (a .job .now) (a .at) (sym (at-length-right .length-right .ensures) ∙ not-false
+    (at-length-right .length-right .result) (at-if1 .if1 .left)) (search needs) (search needs)
 
 pub read-taxa-spec : {M : Type 1} → statement M
 read-taxa-spec =

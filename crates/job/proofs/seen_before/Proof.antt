@@ -14,13 +14,18 @@ seen-so-far-requires c κs =
 
 returns : tie.Need-returns
 returns c =
-    let a = c .before .before .before .args in
-    c .seen-so-far .ensures ∙ sym (ap (λ (b : Bool). b || seenSoFar (knownOf (a .s) (lending [] (a .parts .now) []))) (ne-eqb (a .tag) 3 (c .before .if1 .taken)))
+    let at-if1 = c .before in
+    let st = at-if1 .before .before in
+    let a = st .args in
+    c .seen-so-far .ensures ∙ sym
+    (ap (λ (b : Bool). b || seenSoFar (knownOf (a .s) (lending [] (a .parts .now) [])))
+    (ne-eqb (a .tag) 3 (at-if1 .if1 .taken)))
 
 returns-2 : tie.Need-returns-2
 returns-2 c =
     let a = c .before .before .args in
-    sym (ap (λ (b : Bool). b || seenSoFar (knownOf (a .s) (lending [] (a .parts .now) []))) (eq-eqb (a .tag) 3 (c .if1 .left)))
+    sym (ap (λ (b : Bool). b || seenSoFar (knownOf (a .s) (lending [] (a .parts .now) [])))
+    (eq-eqb (a .tag) 3 (c .if1 .left)))
 
 pub seen-before-spec : {M : Type 1} → statement M
 seen-before-spec = tie.close (tie.spec seen-so-far-requires returns returns-2)

@@ -28,7 +28,8 @@ slice-aggregate-all-seen c =
 
 all-seen-requires : tie.Need-all-seen-requires
 all-seen-requires c κs =
-    let left = c .before .before .before .before .before .if1 .left in
+    let at-if1 = c .before .before .before .before .before in
+    let left = at-if1 .if1 .left in
     let st = c .before .before .before .before .before .before .before .before in
     (st .pre .taxa-big left, st .pre .taxa-few)
 
@@ -36,7 +37,9 @@ returns-4 : tie.Need-returns-4
 returns-4 c =
     let two = c .before .before in
     let st = two .before .before .before .before .before .before .before in
-    seen-all (st .args .s) (st .args .parts .now) (st .pre) (two .before .before .before .before .if1 .left) (two .before .before .if2 .left) (two .if3 .left) (c .all-seen .result) (c .all-seen .ensures)
+    seen-all (st .args .s) (st .args .parts .now) (st .pre)
+    (two .before .before .before .before .if1 .left) (two .before .before .if2 .left)
+    (two .if3 .left) (c .all-seen .result) (c .all-seen .ensures)
 
 pub seen-so-far-spec : {M : Type 1} → statement M
 seen-so-far-spec =

@@ -23,7 +23,8 @@ returns-2 c =
     let at-four-after-start = c .before in
     let st = at-four-after-start .before .before .before .before in
     let a = st .args in
-    let no = sym (at-four-after-start .four-after-start .ensures) ∙ not-true (at-four-after-start .four-after-start .result) (c .if2 .taken) in
+    let no = sym (at-four-after-start .four-after-start .ensures) ∙ not-true
+    (at-four-after-start .four-after-start .result) (c .if2 .taken) in
     few-taxa (a .s) (lending (a .table .now) (a .parts .now) []) no
 
 memory-right-requires : tie.Need-memory-right-requires
@@ -39,8 +40,10 @@ returns-3 c =
     let at-if1 = at-four-after-start .before in
     let st = at-if1 .before .before .before in
     let a = st .args in
-    let few = sym (at-four-after-start .four-after-start .ensures) ∙ not-false (at-four-after-start .four-after-start .result) (at-if2 .if2 .left) in
-    let no = sym (at-memory-right .memory-right .ensures) ∙ not-true (at-memory-right .memory-right .result) (c .if3 .taken) in
+    let few = sym (at-four-after-start .four-after-start .ensures) ∙ not-false
+    (at-four-after-start .four-after-start .result) (at-if2 .if2 .left) in
+    let no = sym (at-memory-right .memory-right .ensures) ∙ not-true
+    (at-memory-right .memory-right .result) (c .if3 .taken) in
     short-memory (a .s) (lending (a .table .now) (a .parts .now) []) (at-if1 .if1 .left) few no
 
 four-after-start-requires-2 : tie.Need-four-after-start-requires-2
@@ -56,9 +59,12 @@ returns-4 c =
     let at-if1 = at-four-after-start .before in
     let st = at-if1 .before .before .before in
     let a = st .args in
-    let few = sym (at-four-after-start .four-after-start .ensures) ∙ not-false (at-four-after-start .four-after-start .result) (at-if2 .if2 .left) in
-    let has = sym (at-memory-right .memory-right .ensures) ∙ not-false (at-memory-right .memory-right .result) (at-if3 .if3 .left) in
-    let no = sym (at-four-after-start2 .four-after-start2 .ensures) ∙ not-true (at-four-after-start2 .four-after-start2 .result) (c .if4 .taken) in
+    let few = sym (at-four-after-start .four-after-start .ensures) ∙ not-false
+    (at-four-after-start .four-after-start .result) (at-if2 .if2 .left) in
+    let has = sym (at-memory-right .memory-right .ensures) ∙ not-false
+    (at-memory-right .memory-right .result) (at-if3 .if3 .left) in
+    let no = sym (at-four-after-start2 .four-after-start2 .ensures) ∙ not-true
+    (at-four-after-start2 .four-after-start2 .result) (c .if4 .taken) in
     no-offset (a .s) (lending (a .table .now) (a .parts .now) []) (at-if1 .if1 .left) few has no
 
 returns-5 : tie.Need-returns-5
@@ -70,9 +76,12 @@ returns-5 c =
     let at-if1 = at-four-after-start .before in
     let st = at-if1 .before .before .before in
     let a = st .args in
-    let few = sym (at-four-after-start .four-after-start .ensures) ∙ not-false (at-four-after-start .four-after-start .result) (at-if2 .if2 .left) in
-    let has = sym (at-memory-right .memory-right .ensures) ∙ not-false (at-memory-right .memory-right .result) (at-if3 .if3 .left) in
-    many-moves (a .s) (lending (a .table .now) (a .parts .now) []) (at-if1 .if1 .left) few has (c .if5 .taken)
+    let few = sym (at-four-after-start .four-after-start .ensures) ∙ not-false
+    (at-four-after-start .four-after-start .result) (at-if2 .if2 .left) in
+    let has = sym (at-memory-right .memory-right .ensures) ∙ not-false
+    (at-memory-right .memory-right .result) (at-if3 .if3 .left) in
+    many-moves (a .s) (lending (a .table .now) (a .parts .now) []) (at-if1 .if1 .left) few has
+    (c .if5 .taken)
 
 returns-6 : tie.Need-returns-6
 returns-6 c =
@@ -85,10 +94,14 @@ returns-6 c =
     let at-if1 = at-four-after-start .before in
     let st = at-if1 .before .before .before in
     let a = st .args in
-    let few = sym (at-four-after-start .four-after-start .ensures) ∙ not-false (at-four-after-start .four-after-start .result) (at-if2 .if2 .left) in
-    let has = sym (at-memory-right .memory-right .ensures) ∙ not-false (at-memory-right .memory-right .result) (at-if3 .if3 .left) in
-    let yes = sym (at-four-after-start2 .four-after-start2 .ensures) ∙ not-false (at-four-after-start2 .four-after-start2 .result) (at-if4 .if4 .left) in
-    is-right (a .s) (lending (a .table .now) (a .parts .now) []) (at-if1 .if1 .left) few has yes (c .if5 .left)
+    let few = sym (at-four-after-start .four-after-start .ensures) ∙ not-false
+    (at-four-after-start .four-after-start .result) (at-if2 .if2 .left) in
+    let has = sym (at-memory-right .memory-right .ensures) ∙ not-false
+    (at-memory-right .memory-right .result) (at-if3 .if3 .left) in
+    let yes = sym (at-four-after-start2 .four-after-start2 .ensures) ∙ not-false
+    (at-four-after-start2 .four-after-start2 .result) (at-if4 .if4 .left) in
+    is-right (a .s) (lending (a .table .now) (a .parts .now) []) (at-if1 .if1 .left) few has yes
+    (c .if5 .left)
 
 pub state-right-spec : {M : Type 1} → statement M
 state-right-spec =

@@ -33,7 +33,8 @@ read-next-requires c κs =
     let st = at-if1 .before .before .before .before .before in
     let a = st .args in
     let m = lending (a .table .now) (a .parts .now) (a .out .now) in
-    let yes = sym (at-state-right .state-right .ensures) ∙ ap fittedSays (at-enum-told .enum-told .given .1) in
+    let yes = sym (at-state-right .state-right .ensures) ∙ ap fittedSays
+    (at-enum-told .enum-told .given .1) in
     (at-if1 .if1 .left, held-of (a .s) m yes)
 
 same-length : tie.Need-same-length
@@ -71,8 +72,10 @@ returns-3 c =
     let st = at-if1 .before .before .before .before .before in
     let a = st .args in
     let m = lending (a .table .now) (a .parts .now) (a .out .now) in
-    let yes = sym (at-state-right .state-right .ensures) ∙ ap fittedSays (at-enum-told .enum-told .given .1) in
-    call-is (step-next (a .job .now) (a .s) m (at-if1 .if1 .left) yes) (at-read-next .read-next .ensures)
+    let yes = sym (at-state-right .state-right .ensures) ∙ ap fittedSays
+    (at-enum-told .enum-told .given .1) in
+    call-is (step-next (a .job .now) (a .s) m (at-if1 .if1 .left) yes)
+    (at-read-next .read-next .ensures)
 
 pub step-spec : {M : Type 1} → statement M
 step-spec =

@@ -28,7 +28,8 @@ slice-aggregate-move-rows c =
     let at-enter = at-entry2 .before .before in
     let st = at-enter .before .before .before .before .before in
     let a = st .args in
-    let o = door-opens [] (no-parts (a .n)) (at-enter .enter .ensures) (at-entry2 .entry2 .given .1) in
+    let o = door-opens [] (no-parts (a .n)) (at-enter .enter .ensures)
+    (at-entry2 .entry2 .given .1) in
     sym (o .looked .rows .room)
 
 move-rows-requires : tie.Need-move-rows-requires
@@ -37,7 +38,8 @@ move-rows-requires c κs =
     let at-enter = at-entry2 .before .before in
     let st = at-enter .before .before .before .before .before in
     let a = st .args in
-    let o = door-opens [] (no-parts (a .n)) (at-enter .enter .ensures) (at-entry2 .entry2 .given .1) in
+    let o = door-opens [] (no-parts (a .n)) (at-enter .enter .ensures)
+    (at-entry2 .entry2 .given .1) in
     ready-rewrites (opened-ready o)
 
 same-length : tie.Need-same-length
@@ -59,7 +61,8 @@ returns-2 c =
     let at-enter = at-entry2 .before .before in
     let st = at-enter .before .before .before .before .before in
     let a = st .args in
-    let o = door-opens [] (no-parts (a .n)) (at-enter .enter .ensures) (at-entry2 .entry2 .given .1) in
+    let o = door-opens [] (no-parts (a .n)) (at-enter .enter .ensures)
+    (at-entry2 .entry2 .given .1) in
     moves-done o (at-move-rows .move-rows .ensures)
 
 pub apply-move-spec : {M : Type 1} → statement M

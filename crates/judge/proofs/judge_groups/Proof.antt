@@ -26,7 +26,8 @@ array-share-prefix-gs c =
 slice-aggregate-distance-each : tie.Need-slice-aggregate-distance-each
 slice-aggregate-distance-each c =
     let at-groups = c .before .before .before in
-    sym (ap length (listed-take (at-groups .groups .ensures)) ∙ sym (at-groups .groups .ensures .count))
+    sym (ap length (listed-take (at-groups .groups .ensures)) ∙ sym
+    (at-groups .groups .ensures .count))
 
 array-share-prefix-hs : tie.Need-array-share-prefix-hs
 array-share-prefix-hs c =
@@ -36,14 +37,17 @@ array-share-prefix-hs c =
 slice-aggregate-distance-each-2 : tie.Need-slice-aggregate-distance-each-2
 slice-aggregate-distance-each-2 c =
     let at-groups2 = c .before .before in
-    sym (ap length (listed-take (at-groups2 .groups2 .ensures)) ∙ sym (at-groups2 .groups2 .ensures .count))
+    sym (ap length (listed-take (at-groups2 .groups2 .ensures)) ∙ sym
+    (at-groups2 .groups2 .ensures .count))
 
 distance-each-requires : tie.Need-distance-each-requires
 distance-each-requires c κs =
     let at-groups2 = c .before .before .before in
     let at-groups = at-groups2 .before .before in
-    let st = at-groups .before .before .before .before .before .before .before in
-    (listed-few (st .pre .0) (at-groups .groups .ensures) (at-groups2 .groups2 .ensures), st .pre .1 .room)
+    let st = at-groups .before .before .before .before .before .before .before in (
+      listed-few (st .pre .0) (at-groups .groups .ensures) (at-groups2 .groups2 .ensures),
+      st .pre .1 .room,
+    )
 
 same-length : tie.Need-same-length
 same-length c = search needs
@@ -55,7 +59,8 @@ returns c =
     let at-groups = at-groups2 .before .before in
     let st = at-groups .before .before .before .before .before .before .before in
     let a = st .args in
-    listed-told (st .pre .0) (at-groups .groups .ensures) (at-groups2 .groups2 .ensures) (a .ys .now) (a .out .now)
+    listed-told (st .pre .0) (at-groups .groups .ensures) (at-groups2 .groups2 .ensures)
+    (a .ys .now) (a .out .now)
     (st .pre .1 .within) (at-distance-each .distance-each .ensures)
 
 pub judge-groups-spec : {M : Type 1} → statement M

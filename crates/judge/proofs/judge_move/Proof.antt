@@ -30,7 +30,8 @@ slice-aggregate-judge-plan c =
     let at-parts-fit = at-enter .before .before .before in
     let st = at-parts-fit .before .before .before .before in
     let a = st .args in
-    let o = door-opens (partitionsChecks (a .n) (a .ys .now)) (at-parts-fit .parts-fit .ensures) (at-enter .enter .ensures) (at-entry2 .entry2 .given .1) in
+    let o = door-opens (partitionsChecks (a .n) (a .ys .now)) (at-parts-fit .parts-fit .ensures)
+    (at-enter .enter .ensures) (at-entry2 .entry2 .given .1) in
     sym (o .looked .rows .room)
 
 slice-aggregate-judge-plan-2 : tie.Need-slice-aggregate-judge-plan-2
@@ -40,7 +41,8 @@ slice-aggregate-judge-plan-2 c =
     let at-parts-fit = at-enter .before .before .before in
     let st = at-parts-fit .before .before .before .before in
     let a = st .args in
-    let o = door-opens (partitionsChecks (a .n) (a .ys .now)) (at-parts-fit .parts-fit .ensures) (at-enter .enter .ensures) (at-entry2 .entry2 .given .1) in
+    let o = door-opens (partitionsChecks (a .n) (a .ys .now)) (at-parts-fit .parts-fit .ensures)
+    (at-enter .enter .ensures) (at-entry2 .entry2 .given .1) in
     sym (o .looked .sides .room)
 
 judge-plan-requires : tie.Need-judge-plan-requires
@@ -50,7 +52,8 @@ judge-plan-requires c κs =
     let at-parts-fit = at-enter .before .before .before in
     let st = at-parts-fit .before .before .before .before in
     let a = st .args in
-    let o = door-opens (partitionsChecks (a .n) (a .ys .now)) (at-parts-fit .parts-fit .ensures) (at-enter .enter .ensures) (at-entry2 .entry2 .given .1) in
+    let o = door-opens (partitionsChecks (a .n) (a .ys .now)) (at-parts-fit .parts-fit .ensures)
+    (at-enter .enter .ensures) (at-entry2 .entry2 .given .1) in
     (opened-ready o, o .parts)
 
 returns : tie.Need-returns
@@ -60,7 +63,8 @@ returns c =
     let at-parts-fit = at-enter .before .before .before in
     let st = at-parts-fit .before .before .before .before in
     let a = st .args in
-    judges-refused (a .ys .now) (at-parts-fit .parts-fit .ensures) (at-enter .enter .ensures) (at-entry .entry .given .1)
+    judges-refused (a .ys .now) (at-parts-fit .parts-fit .ensures) (at-enter .enter .ensures)
+    (at-entry .entry .given .1)
 
 same-length : tie.Need-same-length
 same-length c = search needs
@@ -73,8 +77,10 @@ returns-2 c =
     let at-parts-fit = at-enter .before .before .before in
     let st = at-parts-fit .before .before .before .before in
     let a = st .args in
-    let o = door-opens (partitionsChecks (a .n) (a .ys .now)) (at-parts-fit .parts-fit .ensures) (at-enter .enter .ensures) (at-entry2 .entry2 .given .1) in
-    judges-plan (a .ys .now) (at-judge-plan .judge-plan .result) o (at-judge-plan .judge-plan .ensures)
+    let o = door-opens (partitionsChecks (a .n) (a .ys .now)) (at-parts-fit .parts-fit .ensures)
+    (at-enter .enter .ensures) (at-entry2 .entry2 .given .1) in
+    judges-plan (a .ys .now) (at-judge-plan .judge-plan .result) o
+    (at-judge-plan .judge-plan .ensures)
 
 pub judge-move-spec : {M : Type 1} → statement M
 judge-move-spec =

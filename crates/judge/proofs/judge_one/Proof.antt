@@ -30,7 +30,8 @@ slice-aggregate-one-groups c =
     let at-part-fits = at-enter .before .before .before in
     let st = at-part-fits .before .before in
     let a = st .args in
-    let o = door-opens (partitionChecks (a .n) (a .y)) (at-part-fits .part-fits .ensures) (at-enter .enter .ensures) (at-entry2 .entry2 .given .1) in
+    let o = door-opens (partitionChecks (a .n) (a .y)) (at-part-fits .part-fits .ensures)
+    (at-enter .enter .ensures) (at-entry2 .entry2 .given .1) in
     sym (o .looked .rows .room)
 
 slice-aggregate-one-groups-2 : tie.Need-slice-aggregate-one-groups-2
@@ -40,7 +41,8 @@ slice-aggregate-one-groups-2 c =
     let at-part-fits = at-enter .before .before .before in
     let st = at-part-fits .before .before in
     let a = st .args in
-    let o = door-opens (partitionChecks (a .n) (a .y)) (at-part-fits .part-fits .ensures) (at-enter .enter .ensures) (at-entry2 .entry2 .given .1) in
+    let o = door-opens (partitionChecks (a .n) (a .y)) (at-part-fits .part-fits .ensures)
+    (at-enter .enter .ensures) (at-entry2 .entry2 .given .1) in
     sym (o .looked .sides .room)
 
 one-groups-requires : tie.Need-one-groups-requires
@@ -50,7 +52,8 @@ one-groups-requires c κs =
     let at-part-fits = at-enter .before .before .before in
     let st = at-part-fits .before .before in
     let a = st .args in
-    let o = door-opens (partitionChecks (a .n) (a .y)) (at-part-fits .part-fits .ensures) (at-enter .enter .ensures) (at-entry2 .entry2 .given .1) in
+    let o = door-opens (partitionChecks (a .n) (a .y)) (at-part-fits .part-fits .ensures)
+    (at-enter .enter .ensures) (at-entry2 .entry2 .given .1) in
     (opened-ready o, one-within (a .y) o)
 
 returns : tie.Need-returns
@@ -60,7 +63,8 @@ returns c =
     let at-part-fits = at-enter .before .before .before in
     let st = at-part-fits .before .before in
     let a = st .args in
-    one-refused (a .y) (at-part-fits .part-fits .ensures) (at-enter .enter .ensures) (at-entry .entry .given .1)
+    one-refused (a .y) (at-part-fits .part-fits .ensures) (at-enter .enter .ensures)
+    (at-entry .entry .given .1)
 
 returns-2 : tie.Need-returns-2
 returns-2 c =
@@ -69,7 +73,8 @@ returns-2 c =
     let at-part-fits = at-enter .before .before .before in
     let st = at-part-fits .before .before in
     let a = st .args in
-    let o = door-opens (partitionChecks (a .n) (a .y)) (at-part-fits .part-fits .ensures) (at-enter .enter .ensures) (at-entry2 .entry2 .given .1) in
+    let o = door-opens (partitionChecks (a .n) (a .y)) (at-part-fits .part-fits .ensures)
+    (at-enter .enter .ensures) (at-entry2 .entry2 .given .1) in
     one-told (a .y) o (c .one-groups .ensures)
 
 pub judge-one-spec : {M : Type 1} → statement M

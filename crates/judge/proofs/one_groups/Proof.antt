@@ -25,7 +25,8 @@ array-share-prefix-gs c =
 slice-aggregate-distance : tie.Need-slice-aggregate-distance
 slice-aggregate-distance c =
     let at-groups = c .before .before .before in
-    sym (ap length (listed-take (at-groups .groups .ensures)) ∙ sym (at-groups .groups .ensures .count))
+    sym (ap length (listed-take (at-groups .groups .ensures)) ∙ sym
+    (at-groups .groups .ensures .count))
 
 array-share-prefix-hs : tie.Need-array-share-prefix-hs
 array-share-prefix-hs c =
@@ -35,7 +36,8 @@ array-share-prefix-hs c =
 slice-aggregate-distance-2 : tie.Need-slice-aggregate-distance-2
 slice-aggregate-distance-2 c =
     let at-groups2 = c .before .before in
-    sym (ap length (listed-take (at-groups2 .groups2 .ensures)) ∙ sym (at-groups2 .groups2 .ensures .count))
+    sym (ap length (listed-take (at-groups2 .groups2 .ensures)) ∙ sym
+    (at-groups2 .groups2 .ensures .count))
 
 distance-requires : tie.Need-distance-requires
 distance-requires c κs =
@@ -51,7 +53,8 @@ returns c =
     let st = at-groups .before .before .before .before .before in
     let a = st .args in
     c .distance .ensures
-    ∙ listed-dist (st .pre .0) (at-groups .groups .ensures) (at-groups2 .groups2 .ensures) (a .y) (st .pre .1)
+    ∙ listed-dist (st .pre .0) (at-groups .groups .ensures) (at-groups2 .groups2 .ensures) (a .y)
+    (st .pre .1)
 
 pub one-groups-spec : {M : Type 1} → statement M
 one-groups-spec =

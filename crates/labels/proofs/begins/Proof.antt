@@ -11,15 +11,27 @@ has-requires c κs = search needs
 
 returns : tie.Need-returns
 returns c =
-    begun-alone (c .before .before .args .allowed) (c .before .before .args .a) (sym (c .before .has .ensures) ∙ c .if1 .taken)
+    let at-has = c .before in
+    let st = at-has .before in
+    let a = st .args in
+    begun-alone (a .allowed) (a .a) (sym (at-has .has .ensures) ∙ c .if1 .taken)
 
 returns-2 : tie.Need-returns-2
 returns-2 c =
-    begun-zero (c .before .before .before .args .allowed) (c .before .before .before .args .a) (sym (c .before .before .has .ensures) ∙ c .before .if1 .left) (c .if2 .taken)
+    let at-if1 = c .before in
+    let at-has = at-if1 .before in
+    let st = at-has .before in
+    let a = st .args in
+    begun-zero (a .allowed) (a .a) (sym (at-has .has .ensures) ∙ at-if1 .if1 .left) (c .if2 .taken)
 
 returns-3 : tie.Need-returns-3
 returns-3 c =
-    begun-high (c .before .before .before .before .args .allowed) (c .before .before .before .before .args .a) (search needs) (sym (c .before .before .before .has .ensures) ∙ c .before .before .if1 .left) (c .if3 .taken)
+    let at-if1 = c .before .before in
+    let at-has = at-if1 .before in
+    let st = at-has .before in
+    let a = st .args in
+    begun-high (a .allowed) (a .a) (search needs) (sym (at-has .has .ensures) ∙ at-if1 .if1 .left)
+    (c .if3 .taken)
 
 mul-result : tie.Need-mul-result
 mul-result c = search needs
@@ -30,7 +42,13 @@ shr-result c = search needs
 returns-4 : tie.Need-returns-4
 unfolding some
 returns-4 c =
-    begun-seconds (c .before .before .before .before .args .allowed) (c .before .before .before .before .args .a) (sym (c .before .before .before .has .ensures) ∙ c .before .before .if1 .left) (c .before .if2 .left)
+    let at-if2 = c .before in
+    let at-if1 = at-if2 .before in
+    let at-has = at-if1 .before in
+    let st = at-has .before in
+    let a = st .args in
+    begun-seconds (a .allowed) (a .a) (sym (at-has .has .ensures) ∙ at-if1 .if1 .left)
+    (at-if2 .if2 .left)
 
 pub begins-spec : {M : Type 1} → statement M
 begins-spec =

@@ -12,21 +12,42 @@ value-at-requires c κs = search needs
 
 returns : tie.Need-returns
 returns c =
-    missed-byte (c .before .before .before .args .s .now) (c .before .before .before .args .at) (c .before .before .before .args .allowed) (search needs) (c .before .before .before .pre) (rw (c .before .value-at .ensures) at (c .if1 .taken))
+    let at-value-at = c .before in
+    let st = at-value-at .before .before in
+    let a = st .args in
+    missed-byte (a .s .now) (a .at) (a .allowed) (search needs) (st .pre)
+    (rw (at-value-at .value-at .ensures) at (c .if1 .taken))
 
 begins-requires : tie.Need-begins-requires
 begins-requires c κs = search needs
 
 returns-2 : tie.Need-returns-2
 returns-2 c =
-    missed-digit (c .before .before .before .before .before .args .s .now) (c .before .before .before .before .before .args .at) (c .before .before .before .before .before .args .allowed) (search needs) (c .before .before .before .before .before .pre) (c .before .before .before .value-at .result) (c .before .before .before .value-at .ensures) (omega (arith, c .before .before .if1 .left)) (sym (c .before .begins .ensures) ∙ not-true (c .before .begins .result) (c .if2 .taken))
+    let at-begins = c .before in
+    let at-if1 = at-begins .before in
+    let at-value-at = at-if1 .before in
+    let st = at-value-at .before .before in
+    let a = st .args in
+    missed-digit (a .s .now) (a .at) (a .allowed) (search needs) (st .pre)
+    (at-value-at .value-at .result) (at-value-at .value-at .ensures)
+    (omega (arith, at-if1 .if1 .left)) (sym (at-begins .begins .ensures) ∙ not-true
+    (at-begins .begins .result) (c .if2 .taken))
 
 add-t9 : tie.Need-add-t9
 add-t9 c = search needs
 
 returns-3 : tie.Need-returns-3
 returns-3 c =
-    found-zero (c .before .before .before .before .before .before .args .s .now) (c .before .before .before .before .before .before .args .at) (c .before .before .before .before .before .before .args .allowed) (search needs) (c .before .before .before .before .before .before .pre) (c .before .before .before .before .value-at .result) (c .before .before .before .before .value-at .ensures) (omega (arith, c .before .before .before .if1 .left)) (sym (c .before .before .begins .ensures) ∙ not-false (c .before .before .begins .result) (c .before .if2 .left)) (omega (arith, c .if3 .taken))
+    let at-if2 = c .before in
+    let at-begins = at-if2 .before in
+    let at-if1 = at-begins .before in
+    let at-value-at = at-if1 .before in
+    let st = at-value-at .before .before in
+    let a = st .args in
+    found-zero (a .s .now) (a .at) (a .allowed) (search needs) (st .pre)
+    (at-value-at .value-at .result) (at-value-at .value-at .ensures)
+    (omega (arith, at-if1 .if1 .left)) (sym (at-begins .begins .ensures) ∙ not-false
+    (at-begins .begins .result) (at-if2 .if2 .left)) (omega (arith, c .if3 .taken))
 
 add-value-at : tie.Need-add-value-at
 add-value-at c = search needs
@@ -42,14 +63,37 @@ add-t12 c = search needs
 
 returns-4 : tie.Need-returns-4
 returns-4 c =
-    found-one (c .before .before .before .before .before .before .before .before .before .before .args .s .now) (c .before .before .before .before .before .before .before .before .before .before .args .at) (c .before .before .before .before .before .before .before .before .before .before .args .allowed) (search needs) (c .before .before .before .before .before .before .before .before .before .before .pre) (c .before .before .before .before .before .before .before .before .value-at .result) (c .before .before .before .before .before .before .before .before .value-at .ensures) (omega (arith, c .before .before .before .before .before .before .before .if1 .left)) (rw (c .before .before .before .value-at2 .ensures) at (c .before .before .if4 .taken)) (sym (c .before .among .ensures) ∙ c .if5 .taken)
+    let at-among = c .before in
+    let at-if4 = at-among .before in
+    let at-value-at2 = at-if4 .before in
+    let at-if1 = at-value-at2 .before .before .before .before in
+    let at-value-at = at-if1 .before in
+    let st = at-value-at .before .before in
+    let a = st .args in
+    found-one (a .s .now) (a .at) (a .allowed) (search needs) (st .pre)
+    (at-value-at .value-at .result) (at-value-at .value-at .ensures)
+    (omega (arith, at-if1 .if1 .left)) (rw (at-value-at2 .value-at2 .ensures) at
+    (at-if4 .if4 .taken)) (sym (at-among .among .ensures) ∙ c .if5 .taken)
 
 add-t13 : tie.Need-add-t13
 add-t13 c = search needs
 
 returns-5 : tie.Need-returns-5
 returns-5 c =
-    missed-single (c .before .before .before .before .before .before .before .before .before .before .args .s .now) (c .before .before .before .before .before .before .before .before .before .before .args .at) (c .before .before .before .before .before .before .before .before .before .before .args .allowed) (search needs) (c .before .before .before .before .before .before .before .before .before .before .pre) (c .before .before .before .before .before .before .before .before .value-at .result) (c .before .before .before .before .before .before .before .before .value-at .ensures) (omega (arith, c .before .before .before .before .before .before .before .if1 .left)) (sym (c .before .before .before .before .before .before .begins .ensures) ∙ not-false (c .before .before .before .before .before .before .begins .result) (c .before .before .before .before .before .if2 .left)) (rw (c .before .before .before .value-at2 .ensures) at (c .before .before .if4 .taken)) (sym (c .before .among .ensures) ∙ c .if5 .left)
+    let at-among = c .before in
+    let at-if4 = at-among .before in
+    let at-value-at2 = at-if4 .before in
+    let at-if2 = at-value-at2 .before .before in
+    let at-begins = at-if2 .before in
+    let at-if1 = at-begins .before in
+    let at-value-at = at-if1 .before in
+    let st = at-value-at .before .before in
+    let a = st .args in
+    missed-single (a .s .now) (a .at) (a .allowed) (search needs) (st .pre)
+    (at-value-at .value-at .result) (at-value-at .value-at .ensures)
+    (omega (arith, at-if1 .if1 .left)) (sym (at-begins .begins .ensures) ∙ not-false
+    (at-begins .begins .result) (at-if2 .if2 .left)) (rw (at-value-at2 .value-at2 .ensures) at
+    (at-if4 .if4 .taken)) (sym (at-among .among .ensures) ∙ c .if5 .left)
 
 mul-d : tie.Need-mul-d
 mul-d c = search needs
@@ -65,14 +109,41 @@ add-t15 c = search needs
 
 returns-6 : tie.Need-returns-6
 returns-6 c =
-    found-two (c .before .before .before .before .before .before .before .before .before .before .args .s .now) (c .before .before .before .before .before .before .before .before .before .before .args .at) (c .before .before .before .before .before .before .before .before .before .before .args .allowed) (search needs) (c .before .before .before .before .before .before .before .before .before .before .pre) (c .before .before .before .before .before .before .before .before .value-at .result) (c .before .before .before .before .before .before .before .before .value-at .ensures) (omega (arith, c .before .before .before .before .before .before .before .if1 .left)) (c .before .before .before .value-at2 .result) (c .before .before .before .value-at2 .ensures) (omega (arith, c .before .before .if4 .left)) (omega (arith, c .before .before .before .before .if3 .left)) (sym (c .before .among2 .ensures) ∙ c .if6 .taken)
+    let at-among2 = c .before in
+    let at-if4 = at-among2 .before in
+    let at-value-at2 = at-if4 .before in
+    let at-if3 = at-value-at2 .before in
+    let at-if1 = at-if3 .before .before .before in
+    let at-value-at = at-if1 .before in
+    let st = at-value-at .before .before in
+    let a = st .args in
+    found-two (a .s .now) (a .at) (a .allowed) (search needs) (st .pre)
+    (at-value-at .value-at .result) (at-value-at .value-at .ensures)
+    (omega (arith, at-if1 .if1 .left)) (at-value-at2 .value-at2 .result)
+    (at-value-at2 .value-at2 .ensures) (omega (arith, at-if4 .if4 .left))
+    (omega (arith, at-if3 .if3 .left)) (sym (at-among2 .among2 .ensures) ∙ c .if6 .taken)
 
 add-t10 : tie.Need-add-t10
 add-t10 c = search needs
 
 returns-7 : tie.Need-returns-7
 returns-7 c =
-    missed-double (c .before .before .before .before .before .before .before .before .before .before .args .s .now) (c .before .before .before .before .before .before .before .before .before .before .args .at) (c .before .before .before .before .before .before .before .before .before .before .args .allowed) (search needs) (c .before .before .before .before .before .before .before .before .before .before .pre) (c .before .before .before .before .before .before .before .before .value-at .result) (c .before .before .before .before .before .before .before .before .value-at .ensures) (omega (arith, c .before .before .before .before .before .before .before .if1 .left)) (sym (c .before .before .before .before .before .before .begins .ensures) ∙ not-false (c .before .before .before .before .before .before .begins .result) (c .before .before .before .before .before .if2 .left)) (c .before .before .before .value-at2 .result) (c .before .before .before .value-at2 .ensures) (omega (arith, c .before .before .if4 .left)) (omega (arith, c .before .before .before .before .if3 .left)) (sym (c .before .among2 .ensures) ∙ c .if6 .left)
+    let at-among2 = c .before in
+    let at-if4 = at-among2 .before in
+    let at-value-at2 = at-if4 .before in
+    let at-if3 = at-value-at2 .before in
+    let at-if2 = at-if3 .before in
+    let at-begins = at-if2 .before in
+    let at-if1 = at-begins .before in
+    let at-value-at = at-if1 .before in
+    let st = at-value-at .before .before in
+    let a = st .args in
+    missed-double (a .s .now) (a .at) (a .allowed) (search needs) (st .pre)
+    (at-value-at .value-at .result) (at-value-at .value-at .ensures)
+    (omega (arith, at-if1 .if1 .left)) (sym (at-begins .begins .ensures) ∙ not-false
+    (at-begins .begins .result) (at-if2 .if2 .left)) (at-value-at2 .value-at2 .result)
+    (at-value-at2 .value-at2 .ensures) (omega (arith, at-if4 .if4 .left))
+    (omega (arith, at-if3 .if3 .left)) (sym (at-among2 .among2 .ensures) ∙ c .if6 .left)
 
 pub read-spec : {M : Type 1} → statement M
 read-spec =

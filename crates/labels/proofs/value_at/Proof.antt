@@ -13,18 +13,26 @@ shared-slice-read-b c = search needs
 
 returns-2 : tie.Need-returns-2
 returns-2 c =
-    below-digits (c .before .before .before .args .s .now) (c .before .before .before .args .at) (c .if2 .taken)
+    let st = c .before .before .before in
+    let a = st .args in
+    below-digits (a .s .now) (a .at) (c .if2 .taken)
 
 returns-3 : tie.Need-returns-3
 returns-3 c =
-    above-digits (c .before .before .before .before .args .s .now) (c .before .before .before .before .args .at) (c .if3 .taken)
+    let st = c .before .before .before .before in
+    let a = st .args in
+    above-digits (a .s .now) (a .at) (c .if3 .taken)
 
 cast-result : tie.Need-cast-result
 cast-result c = search needs
 
 returns-4 : tie.Need-returns-4
 returns-4 c =
-    among-digits (c .before .before .before .before .args .s .now) (c .before .before .before .before .args .at) (c .before .before .before .if1 .left) (c .before .if2 .left) (c .if3 .left)
+    let at-if2 = c .before in
+    let at-if1 = at-if2 .before .before in
+    let st = at-if1 .before in
+    let a = st .args in
+    among-digits (a .s .now) (a .at) (at-if1 .if1 .left) (at-if2 .if2 .left) (c .if3 .left)
 
 pub value-at-spec : {M : Type 1} → statement M
 value-at-spec =

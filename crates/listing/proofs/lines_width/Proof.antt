@@ -16,7 +16,9 @@ saved-width-requires c κs =
 
 add-result : tie.Need-add-result
 add-result c =
-    record { fits = omega (arith, c .before .verdicts-width .ensures .1, c .saved-width .ensures .1) }
+    record {
+      fits = omega (arith, c .before .verdicts-width .ensures .1, c .saved-width .ensures .1);
+    }
 
 returns : tie.Need-returns
 returns c =

@@ -36,7 +36,8 @@ slice-aggregate-judge-groups c =
     let at-parts-fit = at-enter .before .before .before .before in
     let st = at-parts-fit .before .before .before .before in
     let a = st .args in
-    let o = door-opens (partitionsChecks (a .n) (a .ys .now)) (at-parts-fit .parts-fit .ensures) (at-enter .enter .ensures) (at-entry2 .entry2 .given .1) in
+    let o = door-opens (partitionsChecks (a .n) (a .ys .now)) (at-parts-fit .parts-fit .ensures)
+    (at-enter .enter .ensures) (at-entry2 .entry2 .given .1) in
     sym (o .looked .rows .room)
 
 slice-aggregate-judge-groups-2 : tie.Need-slice-aggregate-judge-groups-2
@@ -46,7 +47,8 @@ slice-aggregate-judge-groups-2 c =
     let at-parts-fit = at-enter .before .before .before .before in
     let st = at-parts-fit .before .before .before .before in
     let a = st .args in
-    let o = door-opens (partitionsChecks (a .n) (a .ys .now)) (at-parts-fit .parts-fit .ensures) (at-enter .enter .ensures) (at-entry2 .entry2 .given .1) in
+    let o = door-opens (partitionsChecks (a .n) (a .ys .now)) (at-parts-fit .parts-fit .ensures)
+    (at-enter .enter .ensures) (at-entry2 .entry2 .given .1) in
     sym (o .looked .sides .room)
 
 slice-aggregate-judge-groups-3 : tie.Need-slice-aggregate-judge-groups-3
@@ -59,10 +61,17 @@ judge-groups-requires c κs =
     let at-parts-fit = at-enter .before .before .before .before in
     let st = at-parts-fit .before .before .before .before in
     let a = st .args in
-    let o = door-opens (partitionsChecks (a .n) (a .ys .now)) (at-parts-fit .parts-fit .ensures) (at-enter .enter .ensures) (at-entry2 .entry2 .given .1) in
+    let o = door-opens (partitionsChecks (a .n) (a .ys .now)) (at-parts-fit .parts-fit .ensures)
+    (at-enter .enter .ensures) (at-entry2 .entry2 .given .1) in
     let whole = length-replicate {A = ℕ} mostPartitions 0 in
-    let few = few-of (a .n) (a .ys .now) (o .parts) in
-    (opened-ready o, record { within = each-of (a .n) (a .ys .now) (o .parts); room = omega (arith, few, whole) })
+    let few = few-of (a .n) (a .ys .now) (o .parts) in (
+      opened-ready o,
+      record {
+        within = each-of (a .n) (a .ys .now) (o .parts);
+        room =
+            omega (arith, few, whole);
+      },
+    )
 
 array-share-prefix-ds : tie.Need-array-share-prefix-ds
 array-share-prefix-ds c =
@@ -99,31 +108,41 @@ put-where-room-requires c κs =
     let at-parts-fit = at-enter .before .before .before .before in
     let st = at-parts-fit .before .before .before .before in
     let a = st .args in
-    let o = door-opens (partitionsChecks (a .n) (a .ys .now)) (at-parts-fit .parts-fit .ensures) (at-enter .enter .ensures) (at-entry2 .entry2 .given .1) in
+    let o = door-opens (partitionsChecks (a .n) (a .ys .now)) (at-parts-fit .parts-fit .ensures)
+    (at-enter .enter .ensures) (at-entry2 .entry2 .given .1) in
     let u = planMoved (a .n) (a .t .now) (at-entry2 .entry2 .given .0 .0) in
     let told = at-judge-groups .judge-groups .ensures in (
-      omega (arith, found-length (a .n) (a .t .now) u (a .ys .now) told, few-of (a .n) (a .ys .now) (o .parts)),
+      omega (
+        arith,
+        found-length (a .n) (a .t .now) u (a .ys .now) told,
+        few-of (a .n) (a .ys .now)
+            (o .parts),
+      ),
       found-same (a .n) (a .t .now) u (a .ys .now) told,
     )
 
 slice-aggregate-move-where : tie.Need-slice-aggregate-move-where
 slice-aggregate-move-where c =
-    let at-entry2 = c .before .before .before .before .before .before .before .before .before .before .before .before .before .before .before in
+    let at-entry2 =
+    c .before .before .before .before .before .before .before .before .before .before .before .before .before .before .before in
     let at-enter = at-entry2 .before .before in
     let at-parts-fit = at-enter .before .before .before .before in
     let st = at-parts-fit .before .before .before .before in
     let a = st .args in
-    let o = door-opens (partitionsChecks (a .n) (a .ys .now)) (at-parts-fit .parts-fit .ensures) (at-enter .enter .ensures) (at-entry2 .entry2 .given .1) in
+    let o = door-opens (partitionsChecks (a .n) (a .ys .now)) (at-parts-fit .parts-fit .ensures)
+    (at-enter .enter .ensures) (at-entry2 .entry2 .given .1) in
     sym (o .looked .rows .room)
 
 move-where-requires : tie.Need-move-where-requires
 move-where-requires c κs =
-    let at-entry2 = c .before .before .before .before .before .before .before .before .before .before .before .before .before .before .before in
+    let at-entry2 =
+    c .before .before .before .before .before .before .before .before .before .before .before .before .before .before .before in
     let at-enter = at-entry2 .before .before in
     let at-parts-fit = at-enter .before .before .before .before in
     let st = at-parts-fit .before .before .before .before in
     let a = st .args in
-    let o = door-opens (partitionsChecks (a .n) (a .ys .now)) (at-parts-fit .parts-fit .ensures) (at-enter .enter .ensures) (at-entry2 .entry2 .given .1) in
+    let o = door-opens (partitionsChecks (a .n) (a .ys .now)) (at-parts-fit .parts-fit .ensures)
+    (at-enter .enter .ensures) (at-entry2 .entry2 .given .1) in
     ready-rewrites (opened-ready o)
 
 same-length : tie.Need-same-length
@@ -136,7 +155,8 @@ returns c =
     let at-parts-fit = at-enter .before .before .before .before in
     let st = at-parts-fit .before .before .before .before in
     let a = st .args in
-    lists-refused (a .ys .now) (a .number) (a .place) (at-parts-fit .parts-fit .ensures) (at-enter .enter .ensures) (at-entry .entry .given .1)
+    lists-refused (a .ys .now) (a .number) (a .place) (at-parts-fit .parts-fit .ensures)
+    (at-enter .enter .ensures) (at-entry .entry .given .1)
 
 same-length-2 : tie.Need-same-length-2
 same-length-2 c = search needs
@@ -155,12 +175,15 @@ returns-2 c =
     let at-parts-fit = at-enter .before .before .before .before in
     let st = at-parts-fit .before .before .before .before in
     let a = st .args in
-    let o = door-opens (partitionsChecks (a .n) (a .ys .now)) (at-parts-fit .parts-fit .ensures) (at-enter .enter .ensures) (at-entry2 .entry2 .given .1) in
+    let o = door-opens (partitionsChecks (a .n) (a .ys .now)) (at-parts-fit .parts-fit .ensures)
+    (at-enter .enter .ensures) (at-entry2 .entry2 .given .1) in
     let u = planMoved (a .n) (a .t .now) (at-entry2 .entry2 .given .0 .0) in
-    let wide = saved-wide (a .n) most (a .ys .now) _ (o .looked .good .few) (each-of (a .n) (a .ys .now) (o .parts)) in
+    let wide = saved-wide (a .n) most (a .ys .now) _ (o .looked .good .few)
+    (each-of (a .n) (a .ys .now) (o .parts)) in
     lists-put (a .ys .now) (a .number) (a .place) o (at-put-where-room .put-where-room .result)
     (found-are (a .n) (a .t .now) u (a .ys .now) (at-judge-groups .judge-groups .ensures))
-    (at-saved-of .saved-of .ensures ∙ wide) (at-put-where-room .put-where-room .ensures) (at-move-where .move-where .ensures)
+    (at-saved-of .saved-of .ensures ∙ wide) (at-put-where-room .put-where-room .ensures)
+    (at-move-where .move-where .ensures)
 
 pub list-move-spec : {M : Type 1} → statement M
 list-move-spec =

@@ -21,13 +21,15 @@ returns c =
     let at-written = at-if1 .before in
     let a = at-written .before .before .before .args in
     at-move-rows .move-rows .ensures
-    ∙ rows-moved (a .n) (a .t .now) (a .p) (a .answer) (sym (at-written .written .ensures) ∙ at-if1 .if1 .taken)
+    ∙ rows-moved (a .n) (a .t .now) (a .p) (a .answer) (sym (at-written .written .ensures)
+    ∙ at-if1 .if1 .taken)
 
 returns-2 : tie.Need-returns-2
 returns-2 c =
     let at-written = c .before in
     let a = at-written .before .before .before .args in
-    rows-stay (a .n) (a .t .now) (a .p) (a .answer) (sym (at-written .written .ensures) ∙ c .if1 .left)
+    rows-stay (a .n) (a .t .now) (a .p) (a .answer) (sym (at-written .written .ensures)
+    ∙ c .if1 .left)
 
 pub move-where-spec : {M : Type 1} → statement M
 move-where-spec =

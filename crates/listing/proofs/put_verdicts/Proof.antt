@@ -23,7 +23,14 @@ abbrev μ-loop : tie.MeasureT-loop
 
 loop-holds : tie.Need-loop-holds Inv-loop μ-loop
 loop-holds c =
-    (omega arith, sym (ap length (verdicts-none (c .before .before .args .m) (c .before .before .args .ds .now))), sym (ap (λ (l : List ℕ). atStart l (c .before .before .args .out .now)) (verdicts-none (c .before .before .args .m) (c .before .before .args .ds .now))), omega arith)
+    let st = c .before .before in
+    let a = st .args in (
+      omega arith,
+      sym (ap length (verdicts-none (a .m) (a .ds .now))),
+      sym
+          (ap (λ (l : List ℕ). atStart l (a .out .now)) (verdicts-none (a .m) (a .ds .now))),
+      omega arith,
+    )
 
 add-verdict-line : tie.Need-add-verdict-line Inv-loop μ-loop
 add-verdict-line c = search needs
@@ -36,23 +43,98 @@ shared-slice-read-verdict-line c = search needs
 
 sub-verdict-line : tie.Need-sub-verdict-line Inv-loop μ-loop
 sub-verdict-line c =
-    omega (arith, put-room (c .before .before .before .before .before .args .out .now) (verdictLines (c .before .before .before .before .before .args .m) 1 (take (c .before .before .loop .i) (c .before .before .before .before .before .args .ds .now))) (c .before .before .loop .out) (c .before .before .loop .e) (c .before .before .loop .inv .1) (c .before .before .loop .inv .2) (verdictLine (c .before .before .before .before .before .args .m) (c .before .before .loop .i + 1) (getD (c .before .before .before .before .before .args .ds .now) (c .before .before .loop .i) 0)) (omega (arith, verdicts-room (c .before .before .before .before .before .args .m) (c .before .before .before .before .before .args .ds .now) (c .before .before .loop .i) (c .before .loop-test .taken), c .before .before .before .before .before .pre .1)))
+    let at-loop-test = c .before in
+    let at-loop = at-loop-test .before in
+    let st = at-loop .before .before .before in
+    let a = st .args in
+    omega (
+      arith,
+      put-room (a .out .now) (verdictLines (a .m) 1 (take (at-loop .loop .i)
+          (a .ds .now))) (at-loop .loop .out) (at-loop .loop .e) (at-loop .loop .inv .1)
+          (at-loop .loop .inv .2) (verdictLine (a .m) (at-loop .loop .i + 1)
+          (getD (a .ds .now) (at-loop .loop .i) 0)) (omega (
+            arith,
+            verdicts-room (a .m) (a .ds .now)
+                (at-loop .loop .i) (at-loop-test .loop-test .taken),
+            st .pre .1,
+          )),
+    )
 
 part-verdict-line-start : tie.Need-part-verdict-line-start Inv-loop μ-loop
 part-verdict-line-start c =
-    omega (arith, put-room (c .before .before .before .before .before .args .out .now) (verdictLines (c .before .before .before .before .before .args .m) 1 (take (c .before .before .loop .i) (c .before .before .before .before .before .args .ds .now))) (c .before .before .loop .out) (c .before .before .loop .e) (c .before .before .loop .inv .1) (c .before .before .loop .inv .2) (verdictLine (c .before .before .before .before .before .args .m) (c .before .before .loop .i + 1) (getD (c .before .before .before .before .before .args .ds .now) (c .before .before .loop .i) 0)) (omega (arith, verdicts-room (c .before .before .before .before .before .args .m) (c .before .before .before .before .before .args .ds .now) (c .before .before .loop .i) (c .before .loop-test .taken), c .before .before .before .before .before .pre .1)))
+    let at-loop-test = c .before in
+    let at-loop = at-loop-test .before in
+    let st = at-loop .before .before .before in
+    let a = st .args in
+    omega (
+      arith,
+      put-room (a .out .now) (verdictLines (a .m) 1 (take (at-loop .loop .i)
+          (a .ds .now))) (at-loop .loop .out) (at-loop .loop .e) (at-loop .loop .inv .1)
+          (at-loop .loop .inv .2) (verdictLine (a .m) (at-loop .loop .i + 1)
+          (getD (a .ds .now) (at-loop .loop .i) 0)) (omega (
+            arith,
+            verdicts-room (a .m) (a .ds .now)
+                (at-loop .loop .i) (at-loop-test .loop-test .taken),
+            st .pre .1,
+          )),
+    )
 
 part-verdict-line-end : tie.Need-part-verdict-line-end Inv-loop μ-loop
 part-verdict-line-end c =
-    omega (arith, put-room (c .before .before .before .before .before .args .out .now) (verdictLines (c .before .before .before .before .before .args .m) 1 (take (c .before .before .loop .i) (c .before .before .before .before .before .args .ds .now))) (c .before .before .loop .out) (c .before .before .loop .e) (c .before .before .loop .inv .1) (c .before .before .loop .inv .2) (verdictLine (c .before .before .before .before .before .args .m) (c .before .before .loop .i + 1) (getD (c .before .before .before .before .before .args .ds .now) (c .before .before .loop .i) 0)) (omega (arith, verdicts-room (c .before .before .before .before .before .args .m) (c .before .before .before .before .before .args .ds .now) (c .before .before .loop .i) (c .before .loop-test .taken), c .before .before .before .before .before .pre .1)))
+    let at-loop-test = c .before in
+    let at-loop = at-loop-test .before in
+    let st = at-loop .before .before .before in
+    let a = st .args in
+    omega (
+      arith,
+      put-room (a .out .now) (verdictLines (a .m) 1 (take (at-loop .loop .i)
+          (a .ds .now))) (at-loop .loop .out) (at-loop .loop .e) (at-loop .loop .inv .1)
+          (at-loop .loop .inv .2) (verdictLine (a .m) (at-loop .loop .i + 1)
+          (getD (a .ds .now) (at-loop .loop .i) 0)) (omega (
+            arith,
+            verdicts-room (a .m) (a .ds .now)
+                (at-loop .loop .i) (at-loop-test .loop-test .taken),
+            st .pre .1,
+          )),
+    )
 
 verdict-line-requires : tie.Need-verdict-line-requires Inv-loop μ-loop
 verdict-line-requires c κs =
-    part-room (c .before .before .before .before .before .before .args .out .now) (verdictLines (c .before .before .before .before .before .before .args .m) 1 (take (c .before .before .before .loop .i) (c .before .before .before .before .before .before .args .ds .now))) (c .before .before .before .loop .out) (c .before .before .before .loop .e) (c .before .before .before .loop .inv .1) (c .before .before .before .loop .inv .2) (verdictLine (c .before .before .before .before .before .before .args .m) (c .before .before .before .loop .i + 1) (getD (c .before .before .before .before .before .before .args .ds .now) (c .before .before .before .loop .i) 0)) (omega (arith, verdicts-room (c .before .before .before .before .before .before .args .m) (c .before .before .before .before .before .before .args .ds .now) (c .before .before .before .loop .i) (c .before .before .loop-test .taken), c .before .before .before .before .before .before .pre .1))
+    let at-loop-test = c .before .before in
+    let at-loop = at-loop-test .before in
+    let st = at-loop .before .before .before in
+    let a = st .args in
+    part-room (a .out .now) (verdictLines (a .m) 1 (take (at-loop .loop .i) (a .ds .now)))
+    (at-loop .loop .out) (at-loop .loop .e) (at-loop .loop .inv .1) (at-loop .loop .inv .2)
+    (verdictLine (a .m) (at-loop .loop .i + 1) (getD (a .ds .now) (at-loop .loop .i) 0))
+    (omega (
+      arith,
+      verdicts-room (a .m) (a .ds .now) (at-loop .loop .i)
+          (at-loop-test .loop-test .taken),
+      st .pre .1,
+    ))
 
 add-e : tie.Need-add-e Inv-loop μ-loop
 add-e c =
-    record { fits = omega (arith, verdict-few (c .before .before .before .before .before .before .before .before .before .args .m) (c .before .before .before .before .before .before .loop .i + 1) (getD (c .before .before .before .before .before .before .before .before .before .args .ds .now) (c .before .before .before .before .before .before .loop .i) 0) (c .before .before .before .before .before .before .before .before .before .fits .m .fits) (omega (arith, c .before .before .before .before .before .loop-test .taken, c .before .before .before .before .before .before .before .before .before .pre .0)) (omega (arith, c .before .before .before .before .shared-slice-known2 .given (c .before .before .before .before .before .before .loop .i))), c .before .before .verdict-line .ensures .0, c .before .before .before .before .before .before .loop .inv .3, c .before .before .before .before .before .loop-test .taken, c .before .before .before .before .before .before .before .before .before .pre .0) }
+    let at-verdict-line = c .before .before in
+    let at-shared-slice-known2 = at-verdict-line .before .before in
+    let at-loop-test = at-shared-slice-known2 .before in
+    let at-loop = at-loop-test .before in
+    let st = at-loop .before .before .before in
+    let a = st .args in
+    record {
+      fits = omega (
+        arith,
+        verdict-few (a .m) (at-loop .loop .i + 1)
+            (getD (a .ds .now) (at-loop .loop .i) 0) (st .fits .m .fits)
+            (omega (arith, at-loop-test .loop-test .taken, st .pre .0))
+            (omega (arith, at-shared-slice-known2 .shared-slice-known2 .given (at-loop .loop .i))),
+        at-verdict-line .verdict-line .ensures .0,
+        at-loop .loop .inv .3,
+        at-loop-test .loop-test .taken,
+        st .pre .0,
+      );
+    }
 
 add-i : tie.Need-add-i Inv-loop μ-loop
 add-i c = search needs
@@ -62,20 +144,69 @@ loop-less c = search needs
 
 loop-again : tie.Need-loop-again Inv-loop μ-loop
 loop-again c =
-    let w = put-then (c .before .before .before .before .before .before .before .before .before .args .out .now) (verdictLines (c .before .before .before .before .before .before .before .before .before .args .m) 1 (take (c .before .before .before .before .before .before .loop .i) (c .before .before .before .before .before .before .before .before .before .args .ds .now))) (c .before .before .before .before .before .before .loop .out) (c .before .before .before .before .before .before .loop .e) (c .before .before .before .before .before .before .loop .inv .1) (c .before .before .before .before .before .before .loop .inv .2) (verdictLine (c .before .before .before .before .before .before .before .before .before .args .m) (c .before .before .before .before .before .before .loop .i + 1) (getD (c .before .before .before .before .before .before .before .before .before .args .ds .now) (c .before .before .before .before .before .before .loop .i) 0)) (omega (arith, verdicts-room (c .before .before .before .before .before .before .before .before .before .args .m) (c .before .before .before .before .before .before .before .before .before .args .ds .now) (c .before .before .before .before .before .before .loop .i) (c .before .before .before .before .before .loop-test .taken), c .before .before .before .before .before .before .before .before .before .pre .1)) (c .before .before .verdict-line .ensures) in
-    let n = verdicts-next (c .before .before .before .before .before .before .before .before .before .args .m) (c .before .before .before .before .before .before .before .before .before .args .ds .now) (c .before .before .before .before .before .before .loop .i) (c .before .before .before .before .before .loop-test .taken) in
-    (omega (arith, c .before .before .before .before .before .loop-test .taken), w .0 ∙ sym (ap length n), w .1 ∙ sym (ap (λ (l : List ℕ). atStart l (c .before .before .before .before .before .before .before .before .before .args .out .now)) n), omega (arith, verdict-few (c .before .before .before .before .before .before .before .before .before .args .m) (c .before .before .before .before .before .before .loop .i + 1) (getD (c .before .before .before .before .before .before .before .before .before .args .ds .now) (c .before .before .before .before .before .before .loop .i) 0) (c .before .before .before .before .before .before .before .before .before .fits .m .fits) (omega (arith, c .before .before .before .before .before .loop-test .taken, c .before .before .before .before .before .before .before .before .before .pre .0)) (omega (arith, c .before .before .before .before .shared-slice-known2 .given (c .before .before .before .before .before .before .loop .i))), c .before .before .verdict-line .ensures .0, c .before .before .before .before .before .before .loop .inv .3))
+    let at-verdict-line = c .before .before in
+    let at-shared-slice-known2 = at-verdict-line .before .before in
+    let at-loop-test = at-shared-slice-known2 .before in
+    let at-loop = at-loop-test .before in
+    let st = at-loop .before .before .before in
+    let a = st .args in
+    let w = put-then (a .out .now) (verdictLines (a .m) 1 (take (at-loop .loop .i) (a .ds .now)))
+    (at-loop .loop .out) (at-loop .loop .e) (at-loop .loop .inv .1) (at-loop .loop .inv .2)
+    (verdictLine (a .m) (at-loop .loop .i + 1) (getD (a .ds .now) (at-loop .loop .i) 0))
+    (omega (
+      arith,
+      verdicts-room (a .m) (a .ds .now) (at-loop .loop .i)
+          (at-loop-test .loop-test .taken),
+      st .pre .1,
+    )) (at-verdict-line .verdict-line .ensures) in
+    let n = verdicts-next (a .m) (a .ds .now) (at-loop .loop .i) (at-loop-test .loop-test .taken) in (
+      omega (arith, at-loop-test .loop-test .taken),
+      w .0 ∙ sym (ap length n),
+      w .1 ∙ sym
+          (ap (λ (l : List ℕ). atStart l (a .out .now)) n),
+      omega (
+        arith,
+        verdict-few (a .m)
+            (at-loop .loop .i + 1) (getD (a .ds .now) (at-loop .loop .i) 0) (st .fits .m .fits)
+            (omega (arith, at-loop-test .loop-test .taken, st .pre .0))
+            (omega (arith, at-shared-slice-known2 .shared-slice-known2 .given (at-loop .loop .i))),
+        at-verdict-line .verdict-line .ensures .0,
+        at-loop .loop .inv .3,
+      ),
+    )
 
 same-length : tie.Need-same-length Inv-loop μ-loop
 same-length c =
-    let e : c .before .loop .i ≡ length (c .before .before .before .before .args .ds .now) = omega (arith, c .before .loop .inv .0, c .loop-test .left) in
-    ap length (c .before .loop .inv .2) ∙ put-whole (verdictLines (c .before .before .before .before .args .m) 1 (take (c .before .loop .i) (c .before .before .before .before .args .ds .now))) (c .before .before .before .before .args .out .now) (omega (arith, ap length (verdicts-end (c .before .before .before .before .args .m) (c .before .before .before .before .args .ds .now) (c .before .loop .i) e), c .before .before .before .before .pre .1))
+    let at-loop = c .before in
+    let st = at-loop .before .before .before in
+    let a = st .args in
+    let e : at-loop .loop .i ≡ length (a .ds .now) = omega (
+      arith,
+      at-loop .loop .inv .0,
+      c .loop-test .left,
+    ) in
+    ap length (at-loop .loop .inv .2) ∙ put-whole (verdictLines (a .m) 1 (take (at-loop .loop .i)
+    (a .ds .now))) (a .out .now)
+    (omega (arith, ap length (verdicts-end (a .m) (a .ds .now) (at-loop .loop .i) e), st .pre .1))
 
 returns : tie.Need-returns Inv-loop μ-loop
 returns c =
-    let e : c .before .loop .i ≡ length (c .before .before .before .before .args .ds .now) = omega (arith, c .before .loop .inv .0, c .loop-test .left) in
-    let n = verdicts-end (c .before .before .before .before .args .m) (c .before .before .before .before .args .ds .now) (c .before .loop .i) e in
-    ((c .before .loop .inv .1 ∙ ap length n, c .before .loop .inv .2 ∙ ap (λ (l : List ℕ). atStart l (c .before .before .before .before .args .out .now)) n), omega (arith, c .before .loop .inv .3, e, c .before .before .before .before .pre .0))
+    let at-loop = c .before in
+    let st = at-loop .before .before .before in
+    let a = st .args in
+    let e : at-loop .loop .i ≡ length (a .ds .now) = omega (
+      arith,
+      at-loop .loop .inv .0,
+      c .loop-test .left,
+    ) in
+    let n = verdicts-end (a .m) (a .ds .now) (at-loop .loop .i) e in (
+      (
+        at-loop .loop .inv .1 ∙ ap length n,
+        at-loop .loop .inv .2 ∙ ap (λ (l : List ℕ). atStart l
+            (a .out .now)) n,
+      ),
+      omega (arith, at-loop .loop .inv .3, e, st .pre .0),
+    )
 
 pub put-verdicts-spec : {M : Type 1} → statement M
 put-verdicts-spec =

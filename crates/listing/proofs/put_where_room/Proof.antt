@@ -25,7 +25,8 @@ returns c =
     let st = at-lines-width .before .before .before in
     let a = st .args in
     let room = length (a .out .now) in
-    let same = at-has-room .has-room .ensures ∙ ap (λ (z : ℕ). leb (a .place + z) room) (at-lines-width .lines-width .ensures) in
+    let same = at-has-room .has-room .ensures ∙ ap (λ (z : ℕ). leb (a .place + z) room)
+    (at-lines-width .lines-width .ensures) in
     puts-11 (linesWith (a .m) (a .ds .now) (a .saved)) (a .place) (a .out .now)
     (sym same ∙ not-true (at-has-room .has-room .result) (c .if1 .taken))
 
@@ -36,7 +37,8 @@ sub-put-lines c =
     let st = at-lines-width .before .before .before in
     let a = st .args in
     let to = a .place + at-lines-width .lines-width .result in
-    let fits = sym (at-has-room .has-room .ensures) ∙ not-false (at-has-room .has-room .result) (c .if1 .left) in
+    let fits = sym (at-has-room .has-room .ensures) ∙ not-false (at-has-room .has-room .result)
+    (c .if1 .left) in
     omega (arith, leb-true to (length (a .out .now)) fits)
 
 part-put-lines-start : tie.Need-part-put-lines-start
@@ -46,7 +48,8 @@ part-put-lines-start c =
     let st = at-lines-width .before .before .before in
     let a = st .args in
     let to = a .place + at-lines-width .lines-width .result in
-    let fits = sym (at-has-room .has-room .ensures) ∙ not-false (at-has-room .has-room .result) (c .if1 .left) in
+    let fits = sym (at-has-room .has-room .ensures) ∙ not-false (at-has-room .has-room .result)
+    (c .if1 .left) in
     omega (arith, leb-true to (length (a .out .now)) fits)
 
 part-put-lines-end : tie.Need-part-put-lines-end
@@ -61,9 +64,14 @@ put-lines-requires c κs =
     let a = st .args in
     let ls = linesWith (a .m) (a .ds .now) (a .saved) in
     let to = a .place + at-lines-width .lines-width .result in
-    let fits = sym (at-has-room .has-room .ensures) ∙ not-false (at-has-room .has-room .result) (at-if1 .if1 .left) in
+    let fits = sym (at-has-room .has-room .ensures) ∙ not-false (at-has-room .has-room .result)
+    (at-if1 .if1 .left) in
     let h : a .place + length ls ≤ length (a .out .now)
-    = omega (arith, leb-true to (length (a .out .now)) fits, at-lines-width .lines-width .ensures) in
+    = omega (
+      arith,
+      leb-true to (length (a .out .now)) fits,
+      at-lines-width .lines-width .ensures,
+    ) in
     (st .pre .0, st .pre .1, search needs)
 
 add-t9 : tie.Need-add-t9
@@ -74,8 +82,15 @@ add-t9 c =
     let st = at-lines-width .before .before .before in
     let a = st .args in
     let to = a .place + at-lines-width .lines-width .result in
-    let fits = sym (at-has-room .has-room .ensures) ∙ not-false (at-has-room .has-room .result) (at-if1 .if1 .left) in
-    record { fits = omega (arith, leb-true to (length (a .out .now)) fits, st .good .1 .1 .1 .1 .0 .0) }
+    let fits = sym (at-has-room .has-room .ensures) ∙ not-false (at-has-room .has-room .result)
+    (at-if1 .if1 .left) in
+    record {
+      fits = omega (
+        arith,
+        leb-true to (length (a .out .now)) fits,
+        st .good .1 .1 .1 .1 .0 .0,
+      );
+    }
 
 same-length : tie.Need-same-length
 same-length c = search needs
@@ -91,7 +106,8 @@ returns-2 c =
     let ls = linesWith (a .m) (a .ds .now) (a .saved) in
     let room = length (a .out .now) in
     let to = a .place + at-lines-width .lines-width .result in
-    let same = at-has-room .has-room .ensures ∙ ap (λ (z : ℕ). leb (a .place + z) room) (at-lines-width .lines-width .ensures) in
+    let same = at-has-room .has-room .ensures ∙ ap (λ (z : ℕ). leb (a .place + z) room)
+    (at-lines-width .lines-width .ensures) in
     let fits = sym same ∙ not-false (at-has-room .has-room .result) (at-if1 .if1 .left) in
     let h = leb-true (a .place + length ls) room fits in
     puts-done ls (a .place) (a .out .now) fits

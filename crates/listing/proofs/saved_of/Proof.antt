@@ -45,10 +45,12 @@ cast-r c = search needs
 
 add-r : tie.Need-add-r Inv-loop μ-loop
 add-r c =
+    let at-loop-test = c .before .before .before in
+    let at-loop = at-loop-test .before in
     omega (
       arith,
-      c .before .before .before .before .loop .inv .1,
-      c .before .before .before .loop-test .taken,
+      at-loop .loop .inv .1,
+      at-loop-test .loop-test .taken,
       tally-one (c .counts-as-saved .result),
     )
 
@@ -60,15 +62,18 @@ loop-less c = search needs
 
 loop-again : tie.Need-loop-again Inv-loop μ-loop
 loop-again c =
+    let at-loop-test = c .before .before .before in
+    let at-loop = at-loop-test .before in
     let st = c .before .before .before .before .before .before .before in
-    let at = c .before .before .before .before .loop in (
+    let at = at-loop .loop in (
       search needs,
       omega (arith, at .inv .1, tally-one (c .counts-as-saved .result)),
       omega (
         arith,
         ap tally (c .counts-as-saved .ensures),
         at .inv .2,
-        saved-rest most (st .args .ys .now) (st .args .ds .now) (at .i) (st .pre) (c .before .before .before .loop-test .taken),
+        saved-rest most (st .args .ys .now) (st .args .ds .now) (at .i) (st .pre)
+            (at-loop-test .loop-test .taken),
       ),
     )
 
@@ -79,7 +84,8 @@ returns c =
     omega (
       arith,
       at .inv .2,
-      saved-end most (st .args .ys .now) (st .args .ds .now) (at .i) (st .pre) (at .inv .0) (search needs),
+      saved-end most (st .args .ys .now) (st .args .ds .now) (at .i) (st .pre) (at .inv .0)
+          (search needs),
     )
 
 pub saved-of-spec : {M : Type 1} → statement M

@@ -20,8 +20,11 @@ abbrev μ-loop : tie.MeasureT-loop
     length ds - i
 
 loop-holds : tie.Need-loop-holds Inv-loop μ-loop
-loop-holds c =
-    (omega arith, sym (ap length (verdicts-none (c .before .args .m) (c .before .args .ds .now))), omega arith)
+loop-holds c = (
+  omega arith,
+  sym (ap length (verdicts-none (c .before .args .m) (c .before .args .ds .now))),
+  omega arith,
+)
 
 add-verdict-width : tie.Need-add-verdict-width Inv-loop μ-loop
 add-verdict-width c = search needs
@@ -37,7 +40,24 @@ verdict-width-requires c κs = search needs
 
 add-w : tie.Need-add-w Inv-loop μ-loop
 add-w c =
-    record { fits = omega (arith, c .verdict-width .ensures, verdict-few (c .before .before .before .before .before .args .m) (c .before .before .before .loop .i + 1) (getD (c .before .before .before .before .before .args .ds .now) (c .before .before .before .loop .i) 0) (c .before .before .before .before .before .fits .m .fits) (omega (arith, c .before .before .loop-test .taken, c .before .before .before .before .before .pre)) (omega (arith, c .before .shared-slice-known2 .given (c .before .before .before .loop .i))), c .before .before .before .loop .inv .2, c .before .before .loop-test .taken, c .before .before .before .before .before .pre) }
+    let at-shared-slice-known2 = c .before in
+    let at-loop-test = at-shared-slice-known2 .before in
+    let at-loop = at-loop-test .before in
+    let st = at-loop .before .before in
+    let a = st .args in
+    record {
+      fits = omega (
+        arith,
+        c .verdict-width .ensures,
+        verdict-few (a .m)
+            (at-loop .loop .i + 1) (getD (a .ds .now) (at-loop .loop .i) 0) (st .fits .m .fits)
+            (omega (arith, at-loop-test .loop-test .taken, st .pre))
+            (omega (arith, at-shared-slice-known2 .shared-slice-known2 .given (at-loop .loop .i))),
+        at-loop .loop .inv .2,
+        at-loop-test .loop-test .taken,
+        st .pre,
+      );
+    }
 
 add-i : tie.Need-add-i Inv-loop μ-loop
 add-i c = search needs
@@ -46,16 +66,47 @@ loop-less : tie.Need-loop-less Inv-loop μ-loop
 loop-less c = search needs
 
 loop-again : tie.Need-loop-again Inv-loop μ-loop
-loop-again c = (
-  omega (arith, c .before .before .loop-test .taken),
-  omega (arith, c .verdict-width .ensures, c .before .before .before .loop .inv .1, ap length (verdicts-next (c .before .before .before .before .before .args .m) (c .before .before .before .before .before .args .ds .now) (c .before .before .before .loop .i) (c .before .before .loop-test .taken)), length-append (verdictLines (c .before .before .before .before .before .args .m) 1 (take (c .before .before .before .loop .i) (c .before .before .before .before .before .args .ds .now))) (verdictLine (c .before .before .before .before .before .args .m) (c .before .before .before .loop .i + 1) (getD (c .before .before .before .before .before .args .ds .now) (c .before .before .before .loop .i) 0))),
-  omega (arith, c .verdict-width .ensures, verdict-few (c .before .before .before .before .before .args .m) (c .before .before .before .loop .i + 1) (getD (c .before .before .before .before .before .args .ds .now) (c .before .before .before .loop .i) 0) (c .before .before .before .before .before .fits .m .fits) (omega (arith, c .before .before .loop-test .taken, c .before .before .before .before .before .pre)) (omega (arith, c .before .shared-slice-known2 .given (c .before .before .before .loop .i))), c .before .before .before .loop .inv .2),
-)
+loop-again c =
+    let at-shared-slice-known2 = c .before in
+    let at-loop-test = at-shared-slice-known2 .before in
+    let at-loop = at-loop-test .before in
+    let st = at-loop .before .before in
+    let a = st .args in (
+      omega (arith, at-loop-test .loop-test .taken),
+      omega (
+        arith,
+        c .verdict-width .ensures,
+        at-loop .loop .inv .1,
+        ap length (verdicts-next (a .m)
+            (a .ds .now) (at-loop .loop .i) (at-loop-test .loop-test .taken)),
+        length-append
+            (verdictLines (a .m) 1 (take (at-loop .loop .i) (a .ds .now)))
+            (verdictLine (a .m) (at-loop .loop .i + 1) (getD (a .ds .now) (at-loop .loop .i) 0)),
+      ),
+      omega (
+        arith,
+        c .verdict-width .ensures,
+        verdict-few (a .m) (at-loop .loop .i + 1)
+            (getD (a .ds .now) (at-loop .loop .i) 0) (st .fits .m .fits)
+            (omega (arith, at-loop-test .loop-test .taken, st .pre))
+            (omega (arith, at-shared-slice-known2 .shared-slice-known2 .given (at-loop .loop .i))),
+        at-loop .loop .inv .2,
+      ),
+    )
 
 returns : tie.Need-returns Inv-loop μ-loop
 returns c =
-    let e : c .before .loop .i ≡ length (c .before .before .before .args .ds .now) = omega (arith, c .before .loop .inv .0, c .loop-test .left) in
-    (c .before .loop .inv .1 ∙ ap length (verdicts-end (c .before .before .before .args .m) (c .before .before .before .args .ds .now) (c .before .loop .i) e), omega (arith, c .before .loop .inv .2, e, c .before .before .before .pre))
+    let at-loop = c .before in
+    let st = at-loop .before .before in
+    let a = st .args in
+    let e : at-loop .loop .i ≡ length (a .ds .now) = omega (
+      arith,
+      at-loop .loop .inv .0,
+      c .loop-test .left,
+    ) in (
+      at-loop .loop .inv .1 ∙ ap length (verdicts-end (a .m) (a .ds .now) (at-loop .loop .i) e),
+      omega (arith, at-loop .loop .inv .2, e, st .pre),
+    )
 
 pub verdicts-width-spec : {M : Type 1} → statement M
 verdicts-width-spec =

@@ -39,15 +39,21 @@ add-j c = search needs
 
 loop-less : tie.Need-loop-less Inv-loop μ-loop
 loop-less c =
-    let in-b : c .before .before .before .before .before .loop .j < length (c .before .before .before .before .before .before .args .b .now) = ltb-true _ _ (c .before .before .before .if1 .taken) in
+    let at-if1 = c .before .before .before in
+    let at-loop = at-if1 .before .before in
+    let st = at-loop .before in
+    let in-b : at-loop .loop .j < length (st .args .b .now) = ltb-true _ _ (at-if1 .if1 .taken) in
     omega arith
 
 loop-again : tie.Need-loop-again Inv-loop μ-loop
 loop-again c =
+    let at-if1 = c .before .before .before in
+    let at-loop = at-if1 .before .before in
     let st = c .before .before .before .before .before .before in
-    let at = c .before .before .before .before .before .loop in
-    let in-b : at .j < length (st .args .b .now) = ltb-true _ _ (c .before .before .before .if1 .taken) in
-    let law = lacks-pass (st .args .a .now) (st .args .b .now) (at .i) (at .j) (search needs) in-b (st .pre .0) (c .if2 .taken) in
+    let at = at-loop .loop in
+    let in-b : at .j < length (st .args .b .now) = ltb-true _ _ (at-if1 .if1 .taken) in
+    let law = lacks-pass (st .args .a .now) (st .args .b .now) (at .i) (at .j) (search needs) in-b
+    (st .pre .0) (c .if2 .taken) in
     (search needs, search needs, search needs, omega arith)
 
 add-both : tie.Need-add-both Inv-loop μ-loop
@@ -61,13 +67,33 @@ loop-less-2 c = search needs
 
 loop-again-2 : tie.Need-loop-again-2 Inv-loop μ-loop
 loop-again-2 c =
+    let at-if1 = c .before .before .before .before in
+    let at-loop = at-if1 .before .before in
     let st = c .before .before .before .before .before .before .before in
-    let at = c .before .before .before .before .before .before .loop in
+    let at = at-loop .loop in
     let in-a : at .i < length (st .args .a .now) = search needs in
-    let in-b : at .j < length (st .args .b .now) = ltb-true _ _ (c .before .before .before .before .if1 .taken) in
+    let in-b : at .j < length (st .args .b .now) = ltb-true _ _ (at-if1 .if1 .taken) in
     ⊎-elim
-    (λ w. (search needs, search needs, omega arith, omega (arith, lacks-both (st .args .a .now) (st .args .b .now) (at .i) (at .j) in-a in-b (omega arith))))
-    (λ w. (search needs, search needs, omega arith, omega (arith, lacks-lone (st .args .a .now) (st .args .b .now) (at .i) (at .j) in-a in-b (st .pre .1) (omega arith))))
+    (λ w. (
+      search needs,
+      search needs,
+      omega arith,
+      omega (
+        arith,
+        lacks-both (st .args .a .now)
+            (st .args .b .now) (at .i) (at .j) in-a in-b (omega arith),
+      ),
+    ))
+    (λ w. (
+      search needs,
+      search needs,
+      omega arith,
+      omega (
+        arith,
+        lacks-lone (st .args .a .now)
+            (st .args .b .now) (at .i) (at .j) in-a in-b (st .pre .1) (omega arith),
+      ),
+    ))
     (c .if3 .came)
 
 sub-result : tie.Need-sub-result Inv-loop μ-loop
@@ -78,8 +104,16 @@ returns c =
     let st = c .before .before in
     let at = c .before .loop in
     ⊎-elim
-    (λ w. omega (arith, lacks-rest (st .args .a .now) (st .args .b .now) (at .i) (at .j) (ltb-false _ _ (w .1 .left))))
-    (λ w. omega (arith, lacks-end (st .args .a .now) (st .args .b .now) (at .i) (at .j) (omega arith)))
+    (λ w. omega (
+      arith,
+      lacks-rest (st .args .a .now) (st .args .b .now) (at .i) (at .j)
+          (ltb-false _ _ (w .1 .left)),
+    ))
+    (λ w. omega (
+      arith,
+      lacks-end (st .args .a .now) (st .args .b .now) (at .i) (at .j)
+          (omega arith),
+    ))
     (c .loop-test .came)
 
 pub count-lacking-spec : {M : Type 1} → statement M

@@ -47,8 +47,13 @@ loop-less c = search needs
 
 loop-again : tie.Need-loop-again Inv-loop μ-loop Inv-walk μ-walk
 loop-again c =
-    let b = c .before .before .before .before .before .before .before .args .b .now in
-    (search needs, c .before .before .before .loop .inv .1 ∙ mem-later _ b (c .before .before .before .loop .j) (search needs) (c .if3 .left))
+    let at-loop = c .before .before .before in
+    let st = at-loop .before .before .before .before in
+    let b = st .args .b .now in (
+      search needs,
+      at-loop .loop .inv .1 ∙ mem-later _ b (at-loop .loop .j) (search needs)
+          (c .if3 .left),
+    )
 
 add-i : tie.Need-add-i Inv-loop μ-loop Inv-walk μ-walk
 add-i c = search needs
@@ -58,23 +63,38 @@ walk-less c = search needs
 
 walk-again : tie.Need-walk-again Inv-loop μ-loop Inv-walk μ-walk
 walk-again c =
-    let a = c .before .before .before .before .before .before .before .args .a .now in
-    let b = c .before .before .before .before .before .before .before .args .b .now in
-    let i = c .before .before .before .before .before .before .walk .i in (
+    let at-loop = c .before .before .before in
+    let at-walk = at-loop .before .before .before in
+    let st = at-walk .before in
+    let args = st .args in
+    let a = args .a .now in
+    let b = args .b .now in
+    let i = at-walk .walk .i in (
       search needs,
-      c .before .before .before .before .before .before .walk .inv .1 ∙ first-later a b i (search needs)
-          (c .before .before .before .loop .inv .1 ∙ mem-here (getD a i 0) b (c .before .before .before .loop .j) (search needs) (c .if3 .taken)),
+      at-walk .walk .inv .1 ∙ first-later a b i (search needs)
+          (at-loop .loop .inv .1 ∙ mem-here (getD a i 0) b (at-loop .loop .j) (search needs)
+          (c .if3 .taken)),
     )
 
 returns : tie.Need-returns Inv-loop μ-loop Inv-walk μ-walk
-returns c = sym (c .before .walk .inv .1 ∙ first-end (c .before .before .args .a .now) (c .before .before .args .b .now) (c .before .walk .i) (search needs))
+returns c =
+    let at-walk = c .before in
+    let st = at-walk .before in
+    let a = st .args in
+    sym (at-walk .walk .inv .1 ∙ first-end (a .a .now) (a .b .now) (at-walk .walk .i)
+    (search needs))
 
 returns-2 : tie.Need-returns-2 Inv-loop μ-loop Inv-walk μ-walk
 returns-2 c =
-    let a = c .before .before .before .before .before .args .a .now in
-    let b = c .before .before .before .before .before .args .b .now in
-    let i = c .before .before .before .before .walk .i in
-    sym (c .before .before .before .before .walk .inv .1 ∙ first-here a b i (search needs) (c .before .loop .inv .1 ∙ mem-end (getD a i 0) b (c .before .loop .j) (search needs)))
+    let at-loop = c .before in
+    let at-walk = at-loop .before .before .before in
+    let st = at-walk .before in
+    let args = st .args in
+    let a = args .a .now in
+    let b = args .b .now in
+    let i = at-walk .walk .i in
+    sym (at-walk .walk .inv .1 ∙ first-here a b i (search needs) (at-loop .loop .inv .1 ∙ mem-end
+    (getD a i 0) b (at-loop .loop .j) (search needs)))
 
 pub first-lacking-spec : {M : Type 1} → statement M
 first-lacking-spec =

@@ -20,7 +20,8 @@ opens : (c : lts.Joined1 (place-reads.Asked, place-reads.Learnt, open-gap-reads.
     → let st = c .before .before .before .before in Opened (st .args .x) (st .args .out .now) (st .args .len) (c .before .place .result)
 opens c =
     let st = c .before .before .before .before in
-    opened (st .args .x) (st .args .out .now) (st .args .len) (st .pre .0) (c .before .place .result) (c .before .place .ensures)
+    opened (st .args .x) (st .args .out .now) (st .args .len) (st .pre .0)
+    (c .before .place .result) (c .before .place .ensures)
     (λ h e. ⊎-elim (λ w. omega arith) (λ w. omega arith) (c .if1 .came)) (st .pre .1)
 
 place-requires : tie.Need-place-requires
@@ -41,13 +42,16 @@ returns c =
     let at-place = at-if1 .before in
     let st = at-place .before .before .before in
     let a = st .args in
-    there (a .x) (a .out .now) (a .len) (st .pre .0) _ (at-place .place .ensures) (at-if1 .if1 .taken) (c .if2 .taken)
+    there (a .x) (a .out .now) (a .len) (st .pre .0) _ (at-place .place .ensures)
+    (at-if1 .if1 .taken) (c .if2 .taken)
 
 open-gap-requires : tie.Need-open-gap-requires
 open-gap-requires c κs = let w = opens (c .before) in (w .low, w .room)
 
 mul-out : tie.Need-mul-out
-mul-out c = let w = opens (c .before .before .before .before) in omega (arith, c .before .before .before .before .before .before .before .before .good)
+mul-out c =
+    let at-good = c .before .before .before .before .before .before .before .before in
+    let w = opens (c .before .before .before .before) in omega (arith, at-good .good)
 
 slice-write-out : tie.Need-slice-write-out
 slice-write-out c = let w = opens (c .before .before .before .before) in omega arith
@@ -63,7 +67,8 @@ returns-2 c =
     let at-place = c .before .before .before .before .before in
     let st = at-place .before .before .before in
     let w = opens (c .before .before .before .before) in
-    let put = ap (λ (l : List ℕ). set l (at-place .place .result) (st .args .x)) (c .before .before .open-gap .ensures) in
+    let put = ap (λ (l : List ℕ). set l (at-place .place .result) (st .args .x))
+    (c .before .before .open-gap .ensures) in
     record { count = w .count; memory = put ∙ w .gives }
 
 pub insert-spec : {M : Type 1} → statement M

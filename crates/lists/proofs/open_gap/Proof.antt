@@ -47,14 +47,18 @@ loop-again c =
       search needs,
       search needs,
       simp length-set (at .loop .inv .2),
-      rw (at .loop .inv .3) (gap-down (st .args .out .now) (at .loop .k) (st .args .len) (search needs) (search needs) (search needs)),
+      rw (at .loop .inv .3) (gap-down (st .args .out .now) (at .loop .k) (st .args .len)
+          (search needs) (search needs) (search needs)),
     )
 
 same-length : tie.Need-same-length Inv-loop μ-loop
 same-length c = search needs
 
 returns : tie.Need-returns Inv-loop μ-loop
-returns c = let e : c .before .loop .k ≡ c .before .before .args .i = omega arith in rw e at (c .before .loop .inv .3)
+returns c =
+    let at-loop = c .before in
+    let st = at-loop .before in
+    let e : at-loop .loop .k ≡ st .args .i = omega arith in rw e at (at-loop .loop .inv .3)
 
 pub open-gap-spec : {M : Type 1} → statement M
 open-gap-spec =

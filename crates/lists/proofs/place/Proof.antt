@@ -26,7 +26,14 @@ shared-slice-read-if1 : tie.Need-shared-slice-read-if1 Inv-loop μ-loop
 shared-slice-read-if1 c = search needs
 
 returns : tie.Need-returns Inv-loop μ-loop
-returns c = let st = c .before .before .before .before in omega (arith, lead-stop (st .args .x) (st .args .out .now) (st .args .len) (st .pre) (c .before .before .before .loop .i) (search needs) (c .if1 .taken))
+returns c =
+    let at-loop = c .before .before .before in
+    let st = c .before .before .before .before in
+    omega (
+      arith,
+      lead-stop (st .args .x) (st .args .out .now) (st .args .len) (st .pre)
+          (at-loop .loop .i) (search needs) (c .if1 .taken),
+    )
 
 add-i : tie.Need-add-i Inv-loop μ-loop
 add-i c = search needs
@@ -36,11 +43,23 @@ loop-less c = search needs
 
 loop-again : tie.Need-loop-again Inv-loop μ-loop
 loop-again c =
-    let st = c .before .before .before .before in
-    (search needs, omega (arith, lead-more (st .args .x) (st .args .out .now) (st .args .len) (st .pre) (c .before .before .before .loop .i) (search needs) (c .if1 .left)))
+    let at-loop = c .before .before .before in
+    let st = c .before .before .before .before in (
+      search needs,
+      omega (
+        arith,
+        lead-more (st .args .x) (st .args .out .now) (st .args .len)
+            (st .pre) (at-loop .loop .i) (search needs) (c .if1 .left),
+      ),
+    )
 
 returns-2 : tie.Need-returns-2 Inv-loop μ-loop
-returns-2 c = let st = c .before .before in omega (arith, lead-end (st .args .x) (st .args .out .now) (st .args .len) (st .pre) (c .before .loop .i) (search needs))
+returns-2 c =
+    let st = c .before .before in omega (
+      arith,
+      lead-end (st .args .x) (st .args .out .now)
+          (st .args .len) (st .pre) (c .before .loop .i) (search needs),
+    )
 
 pub place-spec : {M : Type 1} → statement M
 place-spec =

@@ -15,7 +15,9 @@ element-write-a c = search needs
 
 returns : tie.Need-returns
 returns c =
-    hook-0 (c .before .before .args .a .now) (c .before .before .args .v) (c .before .before .args .r) (c .if1 .taken)
+    let st = c .before .before in
+    let a = st .args in
+    hook-0 (a .a .now) (a .v) (a .r) (c .if1 .taken)
 
 add-if2 : tie.Need-add-if2
 add-if2 c = search needs
@@ -31,7 +33,10 @@ element-write-a-2 c = search needs
 
 returns-2 : tie.Need-returns-2
 returns-2 c =
-    hook-1 (c .before .before .before .before .args .a .now) (c .before .before .before .before .args .v) (c .before .before .before .before .args .r) (c .before .before .if1 .left) (c .if2 .taken)
+    let at-if1 = c .before .before in
+    let st = at-if1 .before .before in
+    let a = st .args in
+    hook-1 (a .a .now) (a .v) (a .r) (at-if1 .if1 .left) (c .if2 .taken)
 
 add-a-2 : tie.Need-add-a-2
 add-a-2 c = search needs
@@ -41,7 +46,10 @@ element-write-a-3 c = search needs
 
 returns-3 : tie.Need-returns-3
 returns-3 c =
-    hook-2 (c .before .before .before .before .args .a .now) (c .before .before .before .before .args .v) (c .before .before .before .before .args .r) (c .before .before .if1 .left) (c .if2 .left)
+    let at-if1 = c .before .before in
+    let st = at-if1 .before .before in
+    let a = st .args in
+    hook-2 (a .a .now) (a .v) (a .r) (at-if1 .if1 .left) (c .if2 .left)
 
 pub hook-spec : {M : Type 1} → statement M
 hook-spec =

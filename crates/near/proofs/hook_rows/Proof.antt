@@ -100,7 +100,8 @@ loop-again c =
     let v = at-hi .hi .result in
     let e = c .hook2 .ensures ∙ ap (λ (x : List ℕ). hooked x v i) (at-hook .hook .ensures) in
     let more =
-    upto-more (a .n) t (st .pre .0) i (at-loop-test .loop-test .taken) b u v i (inv .1) (at-lo .lo .ensures) (at-hi .hi .ensures) refl (inv .2) in (
+    upto-more (a .n) t (st .pre .0) i (at-loop-test .loop-test .taken) b u v i (inv .1)
+    (at-lo .lo .ensures) (at-hi .hi .ensures) refl (inv .2) in (
       omega arith,
       ap length e ∙ length-hooked (hooked b u i) v i ∙ length-hooked b u i ∙ inv .1,
       subst (λ (x : List ℕ). Upto t x (nodes (a .n)) (i + 1)) (sym e) more,

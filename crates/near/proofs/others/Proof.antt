@@ -27,7 +27,8 @@ returns-2 c =
     let y = z .before in
     let x = y .before in
     let e = x .before .before .args .e in
-    not-second e (x .row-at .ensures) (y .row-at2 .ensures) (z .row-at3 .ensures) (c .before .if1 .left) (c .if2 .taken)
+    not-second e (x .row-at .ensures) (y .row-at2 .ensures) (z .row-at3 .ensures)
+    (c .before .if1 .left) (c .if2 .taken)
 
 returns-3 : tie.Need-returns-3
 returns-3 c =
@@ -35,7 +36,8 @@ returns-3 c =
     let y = z .before in
     let x = y .before in
     let e = x .before .before .args .e in
-    not-third e (x .row-at .ensures) (y .row-at2 .ensures) (z .row-at3 .ensures) (c .before .if1 .left) (c .if2 .left)
+    not-third e (x .row-at .ensures) (y .row-at2 .ensures) (z .row-at3 .ensures)
+    (c .before .if1 .left) (c .if2 .left)
 
 pub others-spec : {M : Type 1} → statement M
 others-spec =

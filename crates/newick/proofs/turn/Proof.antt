@@ -19,7 +19,10 @@ slice-aggregate-give c = search needs
 
 give-requires : tie.Need-give-requires
 give-requires c κs =
-    let right = read-right _ _ _ _ _ (c .before .before .before .before .read-newick .ensures) (c .before .enum-told .given .1) in
+    let at-enum-told = c .before in
+    let at-read-newick = at-enum-told .before .before .before in
+    let right = read-right _ _ _ _ _ (at-read-newick .read-newick .ensures)
+    (at-enum-told .enum-told .given .1) in
     (right, omega (arith, right .1))
 
 enum-known-why : tie.Need-enum-known-why

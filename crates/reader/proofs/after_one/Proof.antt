@@ -17,15 +17,48 @@ is-at-requires c κs = search needs
 
 returns : tie.Need-returns
 returns c =
-    let s = c .before .before .before .before .args .s .now in let n = c .before .before .before .before .args .n in let u = c .before .before .before .before .args .table .now in let k = c .before .before .before .before .args .c in let x = c .before .before .before .before .args .x in let O = c .before .before .before .before .pre in no-second n s u k x O (sym (c .before .is-at .ensures) ∙ not-true _ (c .if1 .taken))
+    let at-is-at = c .before in
+    let st = at-is-at .before .before .before in
+    let a = st .args in
+    let s = a .s .now in
+    let n = a .n in
+    let u = a .table .now in
+    let k = a .c in
+    let x = a .x in
+    let O = st .pre in
+    no-second n s u k x O (sym (at-is-at .is-at .ensures) ∙ not-true _ (c .if1 .taken))
 
 ahead-requires : tie.Need-ahead-requires
 ahead-requires c κs =
-    let s = c .before .before .before .before .args .s .now in let n = c .before .before .before .before .args .n in let u = c .before .before .before .before .args .table .now in let k = c .before .before .before .before .args .c in let x = c .before .before .before .before .args .x in let K : here s _ comma ≡ true = sym (c .before .is-at .ensures) ∙ not-false _ (c .if1 .left) in let i = here-in s _ comma K in let b = c .before .before .before .before .good .0 in search needs
+    let at-is-at = c .before in
+    let st = at-is-at .before .before .before in
+    let a = st .args in
+    let s = a .s .now in
+    let n = a .n in
+    let u = a .table .now in
+    let k = a .c in
+    let x = a .x in
+    let K : here s _ comma ≡ true = sym (at-is-at .is-at .ensures) ∙ not-false _ (c .if1 .left) in
+    let i = here-in s _ comma K in
+    let b = st .good .0 in
+    search needs
 
 member-requires : tie.Need-member-requires
 member-requires c κs =
-    let s = c .before .before .before .before .before .before .args .s .now in let n = c .before .before .before .before .before .before .args .n in let u = c .before .before .before .before .before .before .args .table .now in let k = c .before .before .before .before .before .before .args .c in let x = c .before .before .before .before .before .before .args .x in let O = c .before .before .before .before .before .before .pre in let K : here s _ comma ≡ true = sym (c .before .before .before .is-at .ensures) ∙ not-false _ (c .before .before .if1 .left) in ready-at n s u _ (ahead k) 0 true (c .before .ahead .ensures) (second-ready n s u k x O K)
+    let at-ahead = c .before in
+    let at-if1 = at-ahead .before in
+    let at-is-at = at-if1 .before in
+    let st = at-is-at .before .before .before in
+    let a = st .args in
+    let s = a .s .now in
+    let n = a .n in
+    let u = a .table .now in
+    let k = a .c in
+    let x = a .x in
+    let O = st .pre in
+    let K : here s _ comma ≡ true = sym (at-is-at .is-at .ensures) ∙ not-false _
+    (at-if1 .if1 .left) in
+    ready-at n s u _ (ahead k) 0 true (at-ahead .ahead .ensures) (second-ready n s u k x O K)
 
 enum-known-p : tie.Need-enum-known-p
 enum-known-p c = search needs
@@ -35,14 +68,41 @@ enum-known-d c = search needs
 
 after-two-requires : tie.Need-after-two-requires
 after-two-requires c κs =
-    let s = c .before .before .before .before .before .before .before .before .before .before .before .before .before .args .s .now in let n = c .before .before .before .before .before .before .before .before .before .before .before .before .before .args .n in let u = c .before .before .before .before .before .before .before .before .before .before .before .before .before .args .table .now in let k = c .before .before .before .before .before .before .before .before .before .before .before .before .before .args .c in let x = c .before .before .before .before .before .before .before .before .before .before .before .before .before .args .x in let O = c .before .before .before .before .before .before .before .before .before .before .before .before .before .pre in let K : here s _ comma ≡ true = sym (c .before .before .before .before .before .before .before .before .before .before .is-at .ensures) ∙ not-false _ (c .before .before .before .before .before .before .before .before .before .if1 .left) in let Q = read-is n s (c .before .before .before .before .before .before .member .result) _ (ahead k) _ 0 _ true u _ (c .before .before .before .before .before .before .before .before .ahead .ensures) (c .before .before .d .given .1) (c .before .before .before .before .before .before .member .ensures) in two-read n s u k x O K _ _ _ Q
+    let at-d = c .before .before in
+    let at-member = at-d .before .before .before .before in
+    let at-ahead = at-member .before .before in
+    let at-if1 = at-ahead .before in
+    let at-is-at = at-if1 .before in
+    let st = at-is-at .before .before .before in
+    let a = st .args in
+    let s = a .s .now in
+    let n = a .n in
+    let u = a .table .now in
+    let k = a .c in
+    let x = a .x in
+    let O = st .pre in
+    let K : here s _ comma ≡ true = sym (at-is-at .is-at .ensures) ∙ not-false _
+    (at-if1 .if1 .left) in
+    let Q = read-is n s (at-member .member .result) _ (ahead k) _ 0 _ true u _
+    (at-ahead .ahead .ensures) (at-d .d .given .1) (at-member .member .ensures) in
+    two-read n s u k x O K _ _ _ Q
 
 same-length : tie.Need-same-length
 same-length c = search needs
 
 returns-2 : tie.Need-returns-2
 returns-2 c =
-    let s = c .before .before .before .before .before .before .before .before .before .before .before .before .args .s .now in let n = c .before .before .before .before .before .before .before .before .before .before .before .before .args .n in let u = c .before .before .before .before .before .before .before .before .before .before .before .before .args .table .now in let k = c .before .before .before .before .before .before .before .before .before .before .before .before .args .c in let x = c .before .before .before .before .before .before .before .before .before .before .before .before .args .x in bad-is n s (c .before .before .before .before .before .member .result) _ 0 true u _ _ (c .before .p .given .1) (c .before .before .before .before .before .member .ensures)
+    let at-p = c .before in
+    let at-member = at-p .before .before .before .before in
+    let st = at-member .before .before .before .before .before .before .before in
+    let a = st .args in
+    let s = a .s .now in
+    let n = a .n in
+    let u = a .table .now in
+    let k = a .c in
+    let x = a .x in
+    bad-is n s (at-member .member .result) _ 0 true u _ _ (at-p .p .given .1)
+    (at-member .member .ensures)
 
 same-length-2 : tie.Need-same-length-2
 same-length-2 c = search needs

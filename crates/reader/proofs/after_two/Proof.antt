@@ -17,7 +17,18 @@ size-requires c κs = search needs
 
 third-requires : tie.Need-third-requires
 third-requires c κs =
-    let s = c .before .before .before .before .before .args .s .now in let n = c .before .before .before .before .before .args .n in let u = c .before .before .before .before .before .args .table .now in let k = c .before .before .before .before .before .args .c in let x = c .before .before .before .before .before .args .x in let y = c .before .before .before .before .before .args .y in let T = c .before .before .before .before .before .pre in (T, some-left n s u k x y T (λ q. c .before .if1 .taken (c .before .before .size .ensures ∙ q)))
+    let at-if1 = c .before in
+    let at-size = at-if1 .before in
+    let st = at-size .before .before .before in
+    let a = st .args in
+    let s = a .s .now in
+    let n = a .n in
+    let u = a .table .now in
+    let k = a .c in
+    let x = a .x in
+    let y = a .y in
+    let T = st .pre in
+    (T, some-left n s u k x y T (λ q. at-if1 .if1 .taken (at-size .size .ensures ∙ q)))
 
 same-length : tie.Need-same-length
 same-length c = search needs
@@ -31,25 +42,80 @@ is-at-requires c κs = search needs
 
 returns-2 : tie.Need-returns-2
 returns-2 c =
-    let s = c .before .before .before .before .before .before .args .s .now in let n = c .before .before .before .before .before .before .args .n in let u = c .before .before .before .before .before .before .args .table .now in let k = c .before .before .before .before .before .before .args .c in let x = c .before .before .before .before .before .before .args .x in let y = c .before .before .before .before .before .before .args .y in let T = c .before .before .before .before .before .before .pre in let a : size 64 (k .used) ≡ n = sym (c .before .before .before .size .ensures) ∙ c .before .before .if1 .left in no-end n s u k x y T a (sym (c .before .is-at .ensures) ∙ not-true _ (c .if2 .taken))
+    let at-is-at = c .before in
+    let at-if1 = at-is-at .before in
+    let at-size = at-if1 .before in
+    let st = at-size .before .before .before in
+    let args = st .args in
+    let s = args .s .now in
+    let n = args .n in
+    let u = args .table .now in
+    let k = args .c in
+    let x = args .x in
+    let y = args .y in
+    let T = st .pre in
+    let a : size 64 (k .used) ≡ n = sym (at-size .size .ensures) ∙ at-if1 .if1 .left in
+    no-end n s u k x y T a (sym (at-is-at .is-at .ensures) ∙ not-true _ (c .if2 .taken))
 
 join-both-requires : tie.Need-join-both-requires
 join-both-requires c κs =
-    let s = c .before .before .before .before .before .before .before .args .s .now in let n = c .before .before .before .before .before .before .before .args .n in let u = c .before .before .before .before .before .before .before .args .table .now in let k = c .before .before .before .before .before .before .before .args .c in let x = c .before .before .before .before .before .before .before .args .x in let y = c .before .before .before .before .before .before .before .args .y in let T = c .before .before .before .before .before .before .before .pre in let a : size 64 (k .used) ≡ n = sym (c .before .before .before .before .size .ensures) ∙ c .before .before .before .if1 .left in join-room n s u k x y T a
+    let at-if1 = c .before .before .before in
+    let at-size = at-if1 .before in
+    let st = at-size .before .before .before in
+    let args = st .args in
+    let s = args .s .now in
+    let n = args .n in
+    let u = args .table .now in
+    let k = args .c in
+    let x = args .x in
+    let y = args .y in
+    let T = st .pre in
+    let a : size 64 (k .used) ≡ n = sym (at-size .size .ensures) ∙ at-if1 .if1 .left in
+    join-room n s u k x y T a
 
 add-finish : tie.Need-add-finish
 add-finish c = search needs
 
 finish-requires : tie.Need-finish-requires
 finish-requires c κs =
-    let s = c .before .before .before .before .before .before .before .before .before .before .args .s .now in let n = c .before .before .before .before .before .before .before .before .before .before .args .n in let u = c .before .before .before .before .before .before .before .before .before .before .args .table .now in let k = c .before .before .before .before .before .before .before .before .before .before .args .c in let x = c .before .before .before .before .before .before .before .before .before .before .args .x in let E : here s _ closes ≡ true = sym (c .before .before .before .before .before .is-at .ensures) ∙ not-false _ (c .before .before .before .before .if2 .left) in let i = here-in s _ closes E in omega (arith, i)
+    let at-if2 = c .before .before .before .before in
+    let at-is-at = at-if2 .before in
+    let st = at-is-at .before .before .before .before .before in
+    let a = st .args in
+    let s = a .s .now in
+    let n = a .n in
+    let u = a .table .now in
+    let k = a .c in
+    let x = a .x in
+    let E : here s _ closes ≡ true = sym (at-is-at .is-at .ensures) ∙ not-false _
+    (at-if2 .if2 .left) in
+    let i = here-in s _ closes E in
+    omega (arith, i)
 
 same-length-2 : tie.Need-same-length-2
 same-length-2 c = search needs
 
 returns-3 : tie.Need-returns-3
 returns-3 c =
-    let s = c .before .before .before .before .before .before .before .before .before .before .before .args .s .now in let n = c .before .before .before .before .before .before .before .before .before .before .before .args .n in let u = c .before .before .before .before .before .before .before .before .before .before .before .args .table .now in let k = c .before .before .before .before .before .before .before .before .before .before .before .args .c in let x = c .before .before .before .before .before .before .before .before .before .before .before .args .x in let y = c .before .before .before .before .before .before .before .before .before .before .before .args .y in let T = c .before .before .before .before .before .before .before .before .before .before .before .pre in let a : size 64 (k .used) ≡ n = sym (c .before .before .before .before .before .before .before .before .size .ensures) ∙ c .before .before .before .before .before .before .before .if1 .left in let E : here s _ closes ≡ true = sym (c .before .before .before .before .before .before .is-at .ensures) ∙ not-false _ (c .before .before .before .before .before .if2 .left) in two-parsed n s u k x y T a E _ (c .before .before .before .join-both .ensures) (c .finish .result) (c .finish .ensures)
+    let at-join-both = c .before .before .before in
+    let at-if2 = at-join-both .before .before in
+    let at-is-at = at-if2 .before in
+    let at-if1 = at-is-at .before in
+    let at-size = at-if1 .before in
+    let st = at-size .before .before .before in
+    let args = st .args in
+    let s = args .s .now in
+    let n = args .n in
+    let u = args .table .now in
+    let k = args .c in
+    let x = args .x in
+    let y = args .y in
+    let T = st .pre in
+    let a : size 64 (k .used) ≡ n = sym (at-size .size .ensures) ∙ at-if1 .if1 .left in
+    let E : here s _ closes ≡ true = sym (at-is-at .is-at .ensures) ∙ not-false _
+    (at-if2 .if2 .left) in
+    two-parsed n s u k x y T a E _ (at-join-both .join-both .ensures) (c .finish .result)
+    (c .finish .ensures)
 
 pub after-two-spec : {M : Type 1} → statement M
 after-two-spec =

@@ -20,30 +20,52 @@ returns c =
 
 join-requires : tie.Need-join-requires
 join-requires c κs =
-    row-first (c .before .before .before .before .before .args .s .now) (c .before .before .before .before .before .args .table .now) (c .before .before .before .before .before .args .c) (c .before .before .before .before .before .args .x) (c .before .before .before .before .before .args .y) (c .before .before .before .before .before .pre)
+    let st = c .before .before .before .before .before in
+    let a = st .args in
+    row-first (a .s .now) (a .table .now) (a .c) (a .x) (a .y) (st .pre)
 
 join-requires-2 : tie.Need-join-requires-2
 join-requires-2 c κs =
-    row-second (c .before .before .before .before .before .before .before .before .before .args .s .now) (c .before .before .before .before .before .before .before .before .before .args .table .now) (c .before .before .before .before .before .before .before .before .before .args .c) (c .before .before .before .before .before .before .before .before .before .args .x) (c .before .before .before .before .before .before .before .before .before .args .y) (c .before .before .before .before .before .before .before .before .before .pre) _ (c .before .before .before .join .ensures)
+    let at-join = c .before .before .before in
+    let st = at-join .before .before .before .before .before .before in
+    let a = st .args in
+    row-second (a .s .now) (a .table .now) (a .c) (a .x) (a .y) (st .pre) _ (at-join .join .ensures)
 
 add-t15 : tie.Need-add-t15
 add-t15 c =
-    let E : here (c .before .before .before .before .before .before .before .before .before .before .before .before .args .s .now) (c .before .before .before .before .before .before .before .before .before .before .before .before .args .c .at) closes ≡ true = sym (c .before .before .before .before .before .before .before .before .before .is-at .ensures) ∙ not-false _ (c .before .before .before .before .before .before .before .before .if1 .left) in let i = here-in (c .before .before .before .before .before .before .before .before .before .before .before .before .args .s .now) (c .before .before .before .before .before .before .before .before .before .before .before .before .args .c .at) closes E in let b = c .before .before .before .before .before .before .before .before .before .before .before .before .good .0 in search needs
+    let at-if1 = c .before .before .before .before .before .before .before .before in
+    let at-is-at = at-if1 .before in
+    let st = at-is-at .before .before .before in
+    let a = st .args in
+    let E : here (a .s .now) (a .c .at) closes ≡ true = sym (at-is-at .is-at .ensures) ∙ not-false _
+    (at-if1 .if1 .left) in
+    let i = here-in (a .s .now) (a .c .at) closes E in
+    let b = st .good .0 in
+    search needs
 
 add-t16 : tie.Need-add-t16
 add-t16 c =
-    let b = c .before .before .before .before .before .before .before .before .before .before .before .before .pre .small .2 in search needs
+    let st = c .before .before .before .before .before .before .before .before .before .before .before .before in
+    let b = st .pre .small .2 in search needs
 
 same-length : tie.Need-same-length
 same-length c = search needs
 
 returns-2 : tie.Need-returns-2
 returns-2 c =
-    let E : here (c .before .before .before .before .before .before .before .before .before .before .before .before .args .s .now) (c .before .before .before .before .before .before .before .before .before .before .before .before .args .c .at) closes ≡ true = sym (c .before .before .before .before .before .before .before .before .before .is-at .ensures) ∙ not-false _ (c .before .before .before .before .before .before .before .before .if1 .left) in record {
+    let at-join2 = c .before .before in
+    let at-join = at-join2 .before .before .before .before in
+    let at-if1 = at-join .before .before in
+    let at-is-at = at-if1 .before in
+    let st = at-is-at .before .before .before in
+    let a = st .args in
+    let E : here (a .s .now) (a .c .at) closes ≡ true = sym (at-is-at .is-at .ensures) ∙ not-false _
+    (at-if1 .if1 .left) in
+    record {
       closed = E;
       after = refl;
       named = refl;
-      written = c .before .before .join2 .ensures ∙ ap (join (c .before .before .before .before .before .before .before .before .before .before .before .before .args .y) (c .before .before .before .before .before .before .before .before .before .before .before .before .args .c .next)) (c .before .before .before .before .before .before .join .ensures);
+      written = at-join2 .join2 .ensures ∙ ap (join (a .y) (a .c .next)) (at-join .join .ensures);
     }
 
 pub close-spec : {M : Type 1} → statement M

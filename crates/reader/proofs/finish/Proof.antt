@@ -21,11 +21,15 @@ add-t7 c = search needs
 
 returns-2 : tie.Need-returns-2
 returns-2 c =
-    inr (refl, sym (c .before .before .is-at .ensures) ∙ not-false _ (c .before .if1 .left), c .if2 .taken)
+    let at-if1 = c .before in
+    let at-is-at = at-if1 .before in
+    inr (refl, sym (at-is-at .is-at .ensures) ∙ not-false _ (at-if1 .if1 .left), c .if2 .taken)
 
 returns-3 : tie.Need-returns-3
 returns-3 c =
-    (sym (c .before .before .is-at .ensures) ∙ not-false _ (c .before .if1 .left), c .if2 .left)
+    let at-if1 = c .before in
+    let at-is-at = at-if1 .before in
+    (sym (at-is-at .is-at .ensures) ∙ not-false _ (at-if1 .if1 .left), c .if2 .left)
 
 pub finish-spec : {M : Type 1} → statement M
 finish-spec = tie.close (tie.spec is-at-requires returns add-if2 add-t7 returns-2 returns-3)

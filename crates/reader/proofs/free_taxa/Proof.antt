@@ -17,22 +17,41 @@ less-requires c κs = search needs
 
 returns : tie.Need-returns
 returns c =
-    c .before .less .ensures ∙ ap (λ x. less x (c .before .before .before .args .used)) (c .before .before .full .ensures) ∙ free-more (c .before .before .before .args .n) (c .before .before .before .args .used) (c .before .before .before .pre .1) (c .before .before .before .pre .2) (c .before .before .before .args .more) (c .if1 .taken)
+    let at-less = c .before in
+    let at-full = at-less .before in
+    let st = at-full .before in
+    let a = st .args in
+    at-less .less .ensures ∙ ap (λ x. less x (a .used)) (at-full .full .ensures) ∙ free-more (a .n)
+    (a .used) (st .pre .1) (st .pre .2) (a .more) (c .if1 .taken)
 
 size-requires : tie.Need-size-requires
 size-requires c κs = search needs
 
 add-if2 : tie.Need-add-if2
 add-if2 c =
-    let h = size-le most (c .before .before .before .before .args .used) in let e = c .size .ensures in search needs
+    let st = c .before .before .before .before in
+    let h = size-le most (st .args .used) in let e = c .size .ensures in search needs
 
 returns-2 : tie.Need-returns-2
 returns-2 c =
-    c .before .before .before .less .ensures ∙ ap (λ x. less x (c .before .before .before .before .before .args .used)) (c .before .before .before .before .full .ensures) ∙ free-last (c .before .before .before .before .before .args .n) (c .before .before .before .before .before .args .used) (c .before .before .before .before .before .pre .1) (c .before .before .before .before .before .pre .2) (c .before .before .before .before .before .args .more) (c .before .before .if1 .left) (omega (arith, c .if2 .taken, c .before .size .ensures))
+    let at-size = c .before in
+    let at-if1 = at-size .before in
+    let at-less = at-if1 .before in
+    let at-full = at-less .before in
+    let st = at-full .before in
+    let a = st .args in
+    at-less .less .ensures ∙ ap (λ x. less x (a .used)) (at-full .full .ensures) ∙ free-last (a .n)
+    (a .used) (st .pre .1) (st .pre .2) (a .more) (at-if1 .if1 .left)
+    (omega (arith, c .if2 .taken, at-size .size .ensures))
 
 returns-3 : tie.Need-returns-3
 returns-3 c =
-    free-none (c .before .before .before .before .before .args .n) (c .before .before .before .before .before .args .used) (c .before .before .before .before .before .pre .1) (c .before .before .before .before .before .pre .2) (c .before .before .before .before .before .args .more) (c .before .before .if1 .left) (λ q. c .if2 .left (omega (arith, q, c .before .size .ensures)))
+    let at-size = c .before in
+    let at-if1 = at-size .before in
+    let st = at-if1 .before .before .before in
+    let a = st .args in
+    free-none (a .n) (a .used) (st .pre .1) (st .pre .2) (a .more) (at-if1 .if1 .left)
+    (λ q. c .if2 .left (omega (arith, q, at-size .size .ensures)))
 
 pub free-taxa-spec : {M : Type 1} → statement M
 free-taxa-spec =

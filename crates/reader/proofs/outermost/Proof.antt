@@ -19,11 +19,27 @@ is-at-requires c κs = search needs
 
 returns : tie.Need-returns
 returns c =
-    let s = c .before .before .before .before .args .s .now in let n = c .before .before .before .before .args .n in let u = c .before .before .before .before .args .table .now in no-open n (c .before .before .before .before .pre .1) s (c .before .before .before .before .pre .0) (sym (c .before .is-at .ensures) ∙ not-true _ (c .if1 .taken))
+    let at-is-at = c .before in
+    let st = at-is-at .before .before .before in
+    let a = st .args in
+    let s = a .s .now in
+    let n = a .n in
+    let u = a .table .now in
+    no-open n (st .pre .1) s (st .pre .0) (sym (at-is-at .is-at .ensures) ∙ not-true _
+    (c .if1 .taken))
 
 member-requires : tie.Need-member-requires
 member-requires c κs =
-    let s = c .before .before .before .before .before .args .s .now in let n = c .before .before .before .before .before .args .n in let u = c .before .before .before .before .before .args .table .now in let H : here s 0 opens ≡ true = sym (c .before .before .is-at .ensures) ∙ not-false _ (c .before .if1 .left) in first-ready n s (c .before .before .before .before .before .pre .0) (c .before .before .before .before .before .pre .1) H u (c .before .before .before .before .before .pre .2)
+    let at-if1 = c .before in
+    let at-is-at = at-if1 .before in
+    let st = at-is-at .before .before .before in
+    let a = st .args in
+    let s = a .s .now in
+    let n = a .n in
+    let u = a .table .now in
+    let H : here s 0 opens ≡ true = sym (at-is-at .is-at .ensures) ∙ not-false _
+    (at-if1 .if1 .left) in
+    first-ready n s (st .pre .0) (st .pre .1) H u (st .pre .2)
 
 enum-known-p : tie.Need-enum-known-p
 enum-known-p c = search needs
@@ -33,14 +49,36 @@ enum-known-c c = search needs
 
 after-one-requires : tie.Need-after-one-requires
 after-one-requires c κs =
-    let s = c .before .before .before .before .before .before .before .before .before .before .before .before .args .s .now in let n = c .before .before .before .before .before .before .before .before .before .before .before .before .args .n in let u = c .before .before .before .before .before .before .before .before .before .before .before .before .args .table .now in let H : here s 0 opens ≡ true = sym (c .before .before .before .before .before .before .before .before .before .is-at .ensures) ∙ not-false _ (c .before .before .before .before .before .before .before .before .if1 .left) in let Q = read-is n s (c .before .before .before .before .before .before .member .result) (record { at = 1; next = n; used = 0 }) (record { at = 1; next = n; used = 0 }) _ 1 _ true u _ refl (c .before .before .c .given .1) (c .before .before .before .before .before .before .member .ensures) in one-read n s (c .before .before .before .before .before .before .before .before .before .before .before .before .pre .0) (c .before .before .before .before .before .before .before .before .before .before .before .before .pre .1) H u (c .before .before .before .before .before .before .before .before .before .before .before .before .pre .2) _ _ _ Q
+    let at-c = c .before .before in
+    let at-member = at-c .before .before .before .before in
+    let at-if1 = at-member .before .before in
+    let at-is-at = at-if1 .before in
+    let st = at-is-at .before .before .before in
+    let a = st .args in
+    let s = a .s .now in
+    let n = a .n in
+    let u = a .table .now in
+    let H : here s 0 opens ≡ true = sym (at-is-at .is-at .ensures) ∙ not-false _
+    (at-if1 .if1 .left) in
+    let Q = read-is n s (at-member .member .result) (record { at = 1; next = n; used = 0 })
+    (record { at = 1; next = n; used = 0 }) _ 1 _ true u _ refl (at-c .c .given .1)
+    (at-member .member .ensures) in
+    one-read n s (st .pre .0) (st .pre .1) H u (st .pre .2) _ _ _ Q
 
 same-length : tie.Need-same-length
 same-length c = search needs
 
 returns-2 : tie.Need-returns-2
 returns-2 c =
-    let s = c .before .before .before .before .before .before .before .before .before .before .before .args .s .now in let n = c .before .before .before .before .before .before .before .before .before .before .before .args .n in let u = c .before .before .before .before .before .before .before .before .before .before .before .args .table .now in bad-is n s (c .before .before .before .before .before .member .result) (record { at = 1; next = n; used = 0 }) 1 true u _ _ (c .before .p .given .1) (c .before .before .before .before .before .member .ensures)
+    let at-p = c .before in
+    let at-member = at-p .before .before .before .before in
+    let st = at-member .before .before .before .before .before .before in
+    let a = st .args in
+    let s = a .s .now in
+    let n = a .n in
+    let u = a .table .now in
+    bad-is n s (at-member .member .result) (record { at = 1; next = n; used = 0 }) 1 true u _ _
+    (at-p .p .given .1) (at-member .member .ensures)
 
 same-length-2 : tie.Need-same-length-2
 same-length-2 c = search needs

@@ -18,7 +18,13 @@ same-length c = search needs
 
 returns : tie.Need-returns
 returns c =
-    no-room (c .before .before .before .before .before .before .before .before .before .before .args .n) (c .before .before .before .before .before .before .before .before .before .before .args .text .now) (c .before .before .before .before .before .before .before .before .before .before .args .out .now) (c .before .before .before .before .before .before .before .before .before .before .pre .0, c .before .before .before .before .before .before .before .before .before .before .pre .1) (c .before .before .before .before .before .outermost .result) _ (c .before .before .before .before .before .outermost .ensures) (c .before .enum-told .given .1) (c .if1 .taken)
+    let at-enum-told = c .before in
+    let at-outermost = at-enum-told .before .before .before .before in
+    let st = at-outermost .before .before .before .before .before in
+    let a = st .args in
+    no-room (a .n) (a .text .now) (a .out .now) (st .pre .0, st .pre .1)
+    (at-outermost .outermost .result) _ (at-outermost .outermost .ensures)
+    (at-enum-told .enum-told .given .1) (c .if1 .taken)
 
 copy-requires : tie.Need-copy-requires
 copy-requires c κs = search needs
@@ -28,7 +34,12 @@ same-length-2 c = search needs
 
 returns-2 : tie.Need-returns-2
 returns-2 c =
-    no-tree (c .before .before .before .before .before .before .before .before .before .before .args .n) (c .before .before .before .before .before .before .before .before .before .before .args .text .now) (c .before .before .before .before .before .before .before .before .before .before .args .out .now) (c .before .before .before .before .before .before .before .before .before .before .pre .0, c .before .before .before .before .before .before .before .before .before .before .pre .1) (c .before .before .before .before .before .outermost .result) _ (c .before .before .before .before .before .outermost .ensures) _ (c .before .p .given .1)
+    let at-p = c .before in
+    let at-outermost = at-p .before .before .before .before in
+    let st = at-outermost .before .before .before .before .before in
+    let a = st .args in
+    no-tree (a .n) (a .text .now) (a .out .now) (st .pre .0, st .pre .1)
+    (at-outermost .outermost .result) _ (at-outermost .outermost .ensures) _ (at-p .p .given .1)
 
 same-length-3 : tie.Need-same-length-3
 same-length-3 c = search needs
@@ -38,7 +49,15 @@ same-length-4 c = search needs
 
 returns-3 : tie.Need-returns-3
 returns-3 c =
-    tree-given (c .before .before .before .before .before .before .before .before .before .before .before .before .before .before .before .args .n) (c .before .before .before .before .before .before .before .before .before .before .before .before .before .before .before .args .text .now) (c .before .before .before .before .before .before .before .before .before .before .before .before .before .before .before .args .out .now) (c .before .before .before .before .before .before .before .before .before .before .before .before .before .before .before .pre .0, c .before .before .before .before .before .before .before .before .before .before .before .before .before .before .before .pre .1) (c .before .before .before .before .before .before .before .before .before .before .outermost .result) _ (c .before .before .before .before .before .before .before .before .before .before .outermost .ensures) (c .before .before .before .before .before .before .enum-told .given .1) (c .before .before .before .before .before .if1 .left) _ (c .before .before .copy .ensures .1)
+    let at-copy = c .before .before in
+    let at-if1 = at-copy .before .before .before in
+    let at-enum-told = at-if1 .before in
+    let at-outermost = at-enum-told .before .before .before .before in
+    let st = at-outermost .before .before .before .before .before in
+    let a = st .args in
+    tree-given (a .n) (a .text .now) (a .out .now) (st .pre .0, st .pre .1)
+    (at-outermost .outermost .result) _ (at-outermost .outermost .ensures)
+    (at-enum-told .enum-told .given .1) (at-if1 .if1 .left) _ (at-copy .copy .ensures .1)
 
 pub plant-spec : {M : Type 1} → statement M
 plant-spec =

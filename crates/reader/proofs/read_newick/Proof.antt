@@ -10,11 +10,15 @@ use Rattle.reader.proofs.read_newick.Tie as tie
 
 returns : tie.Need-returns
 returns c =
-    wrong-count (c .before .before .before .args .n) (c .before .before .before .args .text .now) (c .before .before .before .args .out .now) (λ h. omega (arith, h .0, c .if1 .taken))
+    let st = c .before .before .before in
+    let a = st .args in
+    wrong-count (a .n) (a .text .now) (a .out .now) (λ h. omega (arith, h .0, c .if1 .taken))
 
 returns-2 : tie.Need-returns-2
 returns-2 c =
-    wrong-count (c .before .before .before .before .args .n) (c .before .before .before .before .args .text .now) (c .before .before .before .before .args .out .now) (λ h. omega (arith, h .1, c .if2 .taken))
+    let st = c .before .before .before .before in
+    let a = st .args in
+    wrong-count (a .n) (a .text .now) (a .out .now) (λ h. omega (arith, h .1, c .if2 .taken))
 
 mul-table : tie.Need-mul-table
 mul-table c = search needs
@@ -30,18 +34,25 @@ array-borrow-prefix-table c = search needs
 
 slice-aggregate-plant : tie.Need-slice-aggregate-plant
 slice-aggregate-plant c =
-    sym (ap length (zeros-blank (c .before .before .before .before .before .args .n) (c .before .if2 .left)) ∙ blank-length (c .before .before .before .before .before .args .n))
+    let at-if2 = c .before in
+    let st = at-if2 .before .before .before .before in
+    let a = st .args in
+    sym (ap length (zeros-blank (a .n) (at-if2 .if2 .left)) ∙ blank-length (a .n))
 
 plant-requires : tie.Need-plant-requires
 plant-requires c κs =
-    (c .before .before .before .if1 .left, c .before .before .if2 .left, zeros-blank (c .before .before .before .before .before .before .args .n) (c .before .before .if2 .left))
+    let at-if2 = c .before .before in
+    let at-if1 = at-if2 .before in
+    let st = at-if1 .before .before .before in
+    (at-if1 .if1 .left, at-if2 .if2 .left, zeros-blank (st .args .n) (at-if2 .if2 .left))
 
 same-length : tie.Need-same-length
 same-length c = search needs
 
 returns-3 : tie.Need-returns-3
 returns-3 c =
-    c .before .before .before .plant .ensures
+    let at-plant = c .before .before .before in
+    at-plant .plant .ensures
 
 pub read-newick-spec : {M : Type 1} → statement M
 read-newick-spec =

@@ -9,7 +9,10 @@ use Rattle.reader.proofs.taxon_at.Tie as tie
 
 returns : tie.Need-returns
 returns c =
-    label-none (c .before .before .before .args .s .now) (c .before .before .before .args .c .at) (c .before .before .before .args .n) (c .before .before .before .args .c .used) (c .before .before .before .args .more) (c .before .before .before .pre .2) (c .if1 .taken) (c .before .before .before .pre .0)
+    let st = c .before .before .before in
+    let a = st .args in
+    label-none (a .s .now) (a .c .at) (a .n) (a .c .used) (a .more) (st .pre .2) (c .if1 .taken)
+    (st .pre .0)
 
 free-taxa-requires : tie.Need-free-taxa-requires
 free-taxa-requires c κs = search needs
@@ -25,19 +28,40 @@ enum-known-d c = search needs
 
 only-requires : tie.Need-only-requires
 only-requires c κs =
-    label-low (c .before .before .before .before .before .before .before .before .args .s .now) (c .before .before .before .before .before .before .before .before .args .c .at) (c .before .before .before .before .free-taxa .result) (c .before .before .before .before .before .before .before .before .args .n) (c .before .before .before .before .before .before .before .before .args .c .used) (c .before .before .before .before .before .before .before .before .args .more) (c .before .before .before .before .free-taxa .ensures) (c .before .before .before .read .result) (c .before .before .before .read .ensures) (c .before .before .before .before .before .before .before .before .pre .2) _ _ (c .before .d .given .1)
+    let at-d = c .before in
+    let at-read = at-d .before .before in
+    let at-free-taxa = at-read .before in
+    let st = at-free-taxa .before .before .before .before in
+    let a = st .args in
+    label-low (a .s .now) (a .c .at) (at-free-taxa .free-taxa .result) (a .n) (a .c .used) (a .more)
+    (at-free-taxa .free-taxa .ensures) (at-read .read .result) (at-read .read .ensures) (st .pre .2)
+    _ _ (at-d .d .given .1)
 
 returns-2 : tie.Need-returns-2
 returns-2 c =
-    label-bad (c .before .before .before .before .before .before .before .before .args .s .now) (c .before .before .before .before .before .before .before .before .args .c .at) (c .before .before .before .before .free-taxa .result) (c .before .before .before .before .before .before .before .before .args .n) (c .before .before .before .before .before .before .before .before .args .c .used) (c .before .before .before .before .before .before .before .before .args .more) (c .before .before .before .before .free-taxa .ensures) (c .before .before .before .read .result) (c .before .before .before .read .ensures) _ (c .before .p .given .1)
+    let at-p = c .before in
+    let at-read = at-p .before .before in
+    let at-free-taxa = at-read .before in
+    let st = at-free-taxa .before .before .before .before in
+    let a = st .args in
+    label-bad (a .s .now) (a .c .at) (at-free-taxa .free-taxa .result) (a .n) (a .c .used) (a .more)
+    (at-free-taxa .free-taxa .ensures) (at-read .read .result) (at-read .read .ensures) _
+    (at-p .p .given .1)
 
 returns-3 : tie.Need-returns-3
 unfolding add
 returns-3 c =
+    let at-d = c .before .before in
+    let at-read = at-d .before .before in
+    let at-free-taxa = at-read .before in
+    let st = at-free-taxa .before .before .before .before in
+    let a = st .args in
     record {
-      found = label-found (c .before .before .before .before .before .before .before .before .before .args .s .now) (c .before .before .before .before .before .before .before .before .before .args .c .at) (c .before .before .before .before .before .free-taxa .result) (c .before .before .before .before .before .before .before .before .before .args .n) (c .before .before .before .before .before .before .before .before .before .args .c .used) (c .before .before .before .before .before .before .before .before .before .args .more) (c .before .before .before .before .before .free-taxa .ensures) (c .before .before .before .before .read .result) (c .before .before .before .before .read .ensures) _ _ (c .before .before .d .given .1);
+      found = label-found (a .s .now) (a .c .at) (at-free-taxa .free-taxa .result) (a .n)
+          (a .c .used) (a .more) (at-free-taxa .free-taxa .ensures) (at-read .read .result)
+          (at-read .read .ensures) _ _ (at-d .d .given .1);
       next = refl;
-      used = ap (bitOr (c .before .before .before .before .before .before .before .before .before .args .c .used)) (c .only .ensures);
+      used = ap (bitOr (a .c .used)) (c .only .ensures);
     }
 
 pub taxon-at-spec : {M : Type 1} → statement M

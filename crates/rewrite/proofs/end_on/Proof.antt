@@ -16,20 +16,33 @@ touches-requires c κs = search needs
 
 returns : tie.Need-returns
 returns c =
-    let t = c .before .before .before .before .args .t .now in
-    let e = c .before .before .before .before .args .e in
-    let x = c .before .before .before .before .args .x in
-    c .before .before .lo .ensures ∙ sym (ap (λ (b : Bool). pick b (lo t e) (hi t e)) (sym (c .before .touches .ensures ∙ ap (λ (v : ℕ). touches t x v) (c .before .before .lo .ensures)) ∙ c .if1 .taken))
+    let at-touches = c .before in
+    let at-lo = at-touches .before in
+    let st = at-lo .before .before in
+    let a = st .args in
+    let t = a .t .now in
+    let e = a .e in
+    let x = a .x in
+    at-lo .lo .ensures ∙ sym (ap (λ (b : Bool). pick b (lo t e) (hi t e))
+    (sym (at-touches .touches .ensures ∙ ap (λ (v : ℕ). touches t x v) (at-lo .lo .ensures))
+    ∙ c .if1 .taken))
 
 hi-requires : tie.Need-hi-requires
 hi-requires c κs = search needs
 
 returns-2 : tie.Need-returns-2
 returns-2 c =
-    let t = c .before .before .before .before .before .args .t .now in
-    let e = c .before .before .before .before .before .args .e in
-    let x = c .before .before .before .before .before .args .x in
-    c .hi .ensures ∙ sym (ap (λ (b : Bool). pick b (lo t e) (hi t e)) (sym (c .before .before .touches .ensures ∙ ap (λ (v : ℕ). touches t x v) (c .before .before .before .lo .ensures)) ∙ c .before .if1 .left))
+    let at-if1 = c .before in
+    let at-touches = at-if1 .before in
+    let at-lo = at-touches .before in
+    let st = at-lo .before .before in
+    let a = st .args in
+    let t = a .t .now in
+    let e = a .e in
+    let x = a .x in
+    c .hi .ensures ∙ sym (ap (λ (b : Bool). pick b (lo t e) (hi t e))
+    (sym (at-touches .touches .ensures ∙ ap (λ (v : ℕ). touches t x v) (at-lo .lo .ensures))
+    ∙ at-if1 .if1 .left))
 
 pub end-on-spec : {M : Type 1} → statement M
 end-on-spec = tie.close (tie.spec lo-requires touches-requires returns hi-requires returns-2)

@@ -34,7 +34,8 @@ returns c =
     let o = at-others .others in
     let K = two-rows (st .pre) (o .ensures) in
     c .before .before .put-end .ensures
-    ∙ sym (moveEnd-eq (a .n) (a .t .now) (a .p) (a .a) (a .b) (o .result .f) (o .result .g) (K .list))
+    ∙ sym (moveEnd-eq (a .n) (a .t .now) (a .p) (a .a) (a .b) (o .result .f) (o .result .g)
+    (K .list))
 
 pub move-end-spec : {M : Type 1} → statement M
 move-end-spec = tie.close (tie.spec others-requires put-end-requires same-length returns)

@@ -9,8 +9,15 @@ exchange-requires : tie.Need-exchange-requires
 exchange-requires c κs =
     let st = c .before .before .before .before in
     let R = rights (st .pre) in
-    let len = st .pre .good .valid .len in
-    (omega (arith, R .row, len), omega (arith, R .first .row, len), omega (arith, R .second .row, len))
+    let len = st .pre .good .valid .len in (
+      omega (arith, R .row, len),
+      omega (arith, R .first .row, len),
+      omega (
+        arith,
+        R .second .row,
+        len,
+      ),
+    )
 
 same-length : tie.Need-same-length
 same-length c = search needs

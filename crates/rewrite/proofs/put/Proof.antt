@@ -27,7 +27,9 @@ same-length c = search needs
 
 returns : tie.Need-returns
 returns c =
-    put-up (c .before .args .t .now) (c .before .args .r) (c .before .args .u) (c .before .args .v) (c .if1 .taken)
+    let st = c .before in
+    let a = st .args in
+    put-up (a .t .now) (a .r) (a .u) (a .v) (c .if1 .taken)
 
 cast-t-3 : tie.Need-cast-t-3
 cast-t-3 c = search needs
@@ -49,7 +51,9 @@ same-length-2 c = search needs
 
 returns-2 : tie.Need-returns-2
 returns-2 c =
-    put-down (c .before .args .t .now) (c .before .args .r) (c .before .args .u) (c .before .args .v) (c .if1 .left)
+    let st = c .before in
+    let a = st .args in
+    put-down (a .t .now) (a .r) (a .u) (a .v) (c .if1 .left)
 
 pub put-spec : {M : Type 1} → statement M
 put-spec =

@@ -7,7 +7,9 @@ use Rattle.rules.proofs.above_two.Tie as tie
 
 returns : tie.Need-returns
 returns c =
-    omega (arith, c .if1 .taken, met-le (c .before .before .args .y) (c .before .before .args .gs .now))
+    let st = c .before .before in
+    let a = st .args in
+    omega (arith, c .if1 .taken, met-le (a .y) (a .gs .now))
 
 count-met-requires : tie.Need-count-met-requires
 count-met-requires c κs = search needs

@@ -31,8 +31,15 @@ meets-requires c κs = search needs
 
 add-r : tie.Need-add-r Inv-loop μ-loop
 add-r c =
+    let at-loop-test = c .before .before in
+    let at-loop = at-loop-test .before in
     let st = c .before .before .before .before .before in
-    omega (arith, met-rest (st .args .y) (st .args .gs .now) (c .before .before .before .loop .i) (c .before .before .loop-test .taken), met-le (st .args .y) (st .args .gs .now))
+    omega (
+      arith,
+      met-rest (st .args .y) (st .args .gs .now) (at-loop .loop .i)
+          (at-loop-test .loop-test .taken),
+      met-le (st .args .y) (st .args .gs .now),
+    )
 
 add-i : tie.Need-add-i Inv-loop μ-loop
 add-i c = search needs
@@ -42,12 +49,28 @@ loop-less c = search needs
 
 loop-again : tie.Need-loop-again Inv-loop μ-loop
 loop-again c =
-    let st = c .before .before .before .before .before in
-    (search needs, omega (arith, met-rest (st .args .y) (st .args .gs .now) (c .before .before .before .loop .i) (c .before .before .loop-test .taken)))
+    let at-loop-test = c .before .before in
+    let at-loop = at-loop-test .before in
+    let st = c .before .before .before .before .before in (
+      search needs,
+      omega (
+        arith,
+        met-rest (st .args .y) (st .args .gs .now) (at-loop .loop .i)
+            (at-loop-test .loop-test .taken),
+      ),
+    )
 
 returns : tie.Need-returns Inv-loop μ-loop
 returns c =
-    omega (arith, c .before .loop .inv .1, met-end (c .before .before .before .args .y) (c .before .before .before .args .gs .now) (c .before .loop .i) (c .before .loop .inv .0) (search needs))
+    let at-loop = c .before in
+    let st = at-loop .before .before in
+    let a = st .args in
+    omega (
+      arith,
+      at-loop .loop .inv .1,
+      met-end (a .y) (a .gs .now) (at-loop .loop .i)
+          (at-loop .loop .inv .0) (search needs),
+    )
 
 pub count-met-spec : {M : Type 1} → statement M
 count-met-spec =

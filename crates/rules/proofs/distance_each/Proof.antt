@@ -35,8 +35,9 @@ mul-out c = search needs
 
 slice-write-out : tie.Need-slice-write-out Inv-loop μ-loop
 slice-write-out c =
+    let at-loop = c .before .before .before in
     let st = c .before .before .before .before .before .before .before .before in
-    let at = c .before .before .before .loop in
+    let at = at-loop .loop in
     omega (arith, judge-length (st .args .ys .now) (at .i) (at .inv .0) (at .inv .1) (st .pre .1))
 
 cast-r : tie.Need-cast-r Inv-loop μ-loop
@@ -44,9 +45,15 @@ cast-r c = search needs
 
 add-r : tie.Need-add-r Inv-loop μ-loop
 add-r c =
+    let at-loop = c .before .before .before in
     let st = c .before .before .before .before .before .before .before .before in
-    let at = c .before .before .before .loop in
-    omega (arith, judge-few (st .args .ys .now) (at .i) (at .inv .0) (at .inv .1), tally-one (eqb (c .distance .result) 0))
+    let at = at-loop .loop in
+    omega (
+      arith,
+      judge-few (st .args .ys .now) (at .i) (at .inv .0) (at .inv .1),
+      tally-one
+          (eqb (c .distance .result) 0),
+    )
 
 add-i : tie.Need-add-i Inv-loop μ-loop
 add-i c = search needs
@@ -56,9 +63,14 @@ loop-less c = search needs
 
 loop-again : tie.Need-loop-again Inv-loop μ-loop
 loop-again c =
+    let at-loop-test = c .before .before in
+    let at-loop = at-loop-test .before in
     let st = c .before .before .before .before .before .before .before .before in
-    let at = c .before .before .before .loop in
-    (search needs, judge-next (st .args .ys .now) (at .i) (at .inv .0) (at .inv .1) (st .pre .1) (c .before .before .loop-test .taken) (c .distance .result) (c .distance .ensures))
+    let at = at-loop .loop in (
+      search needs,
+      judge-next (st .args .ys .now) (at .i) (at .inv .0) (at .inv .1) (st .pre .1)
+          (at-loop-test .loop-test .taken) (c .distance .result) (c .distance .ensures),
+    )
 
 same-length : tie.Need-same-length Inv-loop μ-loop
 same-length c =

@@ -43,7 +43,8 @@ walk-returns t c =
 
 walk-element-write-marks : (t : ℕ) → walk-lts.Need-element-write-marks (claims t) (walk-at t) walk.Post
 walk-element-write-marks t c =
-    let W = c .before .before .before .pre .1 in
+    let st = c .before .before .before in
+    let W = st .pre .1 in
     omega (arith, v-lt W, W .rowed .ordered .few)
 
 walk-only-requires : (t : ℕ) → walk-lts.Need-only-requires (claims t) (walk-at t) walk.Post
@@ -63,11 +64,13 @@ walk-returns-2 t c =
     let at-if1 = at-if2 .before in
     let st = at-if1 .before .before .before in
     let unmarked = mark-not (st .args .marks .now) (st .args .v) (at-if1 .if1 .left) in
-    walked-taxon (st .pre .1) unmarked (at-if2 .if2 .taken) (at-only .only .ensures) (c .note .ensures)
+    walked-taxon (st .pre .1) unmarked (at-if2 .if2 .taken) (at-only .only .ensures)
+    (c .note .ensures)
 
 walk-others-requires : (t : ℕ) → walk-lts.Need-others-requires (claims t) (walk-at t) walk.Post
 walk-others-requires t c κs =
-    let W = c .before .before .before .before .before .pre .1 in
+    let st = c .before .before .before .before .before in
+    let W = st .pre .1 in
     (omega (arith, v-lt W, W .rowed .ordered .few), W .near .room)
 
 walk-far-requires : (t : ℕ) → walk-lts.Need-far-requires (claims t) (walk-at t) walk.Post
@@ -88,7 +91,8 @@ walk-walk-requires t c κs =
     let W = st .pre .1 in
     let unmarked = mark-not (st .args .marks .now) (st .args .v) (at-if1 .if1 .left) in
     let fall = left-falls W unmarked in
-    let on = walks-first W unmarked (at-if2 .if2 .left) (at-others .others .ensures) (at-far .far .ensures) refl in
+    let on = walks-first W unmarked (at-if2 .if2 .left) (at-others .others .ensures)
+    (at-far .far .ensures) refl in
     (omega (arith, fall, st .pre .0), on)
 
 walk-far-requires-2 : (t : ℕ) → walk-lts.Need-far-requires-2 (claims t) (walk-at t) walk.Post
@@ -114,13 +118,15 @@ walk-walk-requires-2 t c κs =
     let unmarked = mark-not (st .args .marks .now) (st .args .v) (at-if1 .if1 .left) in
     let fall = left-falls W unmarked in
     let less = left-spread _ _ _ _ (first .visited .spread) in
-    let on = walks-second W unmarked (at-if2 .if2 .left) (at-others .others .ensures) (at-far .far .ensures)
+    let on = walks-second W unmarked (at-if2 .if2 .left) (at-others .others .ensures)
+    (at-far .far .ensures)
     (at-far2 .far2 .ensures) first in
     (omega (arith, fall, less, st .pre .0), on)
 
 walk-note-requires-2 : (t : ℕ) → walk-lts.Need-note-requires-2 (claims t) (walk-at t) walk.Post
 walk-note-requires-2 t c κs =
-    let at-others = c .before .before .before .before .before .before .before .before .before .before in
+    let at-others =
+    c .before .before .before .before .before .before .before .before .before .before in
     let st = at-others .before .before .before .before .before in
     notes (st .pre .1)
 
@@ -135,8 +141,10 @@ walk-returns-3 t c =
     let at-if1 = at-if2 .before in
     let st = at-if1 .before .before .before in
     let unmarked = mark-not (st .args .marks .now) (st .args .v) (at-if1 .if1 .left) in
-    walked-inner (st .pre .1) unmarked (at-if2 .if2 .left) (at-others .others .ensures) (at-far .far .ensures)
-    (at-far2 .far2 .ensures) (at-walk .walk .ensures) (at-walk2 .walk2 .ensures) refl (c .note2 .ensures)
+    walked-inner (st .pre .1) unmarked (at-if2 .if2 .left) (at-others .others .ensures)
+    (at-far .far .ensures)
+    (at-far2 .far2 .ensures) (at-walk .walk .ensures) (at-walk2 .walk2 .ensures) refl
+    (c .note2 .ensures)
 
 pub +walk-spec : {M : Type 1} → statement M
 +walk-spec = close μ-walk λ t. walk-lts.spec (claims t)

@@ -45,13 +45,20 @@ loop-less c = search needs
 loop-again : tie.Need-loop-again Inv-loop μ-loop
 unfolding mark
 loop-again c =
-    let ms = c .before .before .before .args .marks .now in
-    let at = c .before .before .loop in
-    (search needs, gather-more (mark ms) (at .v) (at .bad) _ (at .inv .1) (byte-none (eqb (getD ms (at .v) 0) 0)))
+    let at-loop = c .before .before in
+    let st = at-loop .before in
+    let ms = st .args .marks .now in
+    let at = at-loop .loop in (
+      search needs,
+      gather-more (mark ms) (at .v) (at .bad) _ (at .inv .1)
+          (byte-none (eqb (getD ms (at .v) 0) 0)),
+    )
 
 returns : tie.Need-returns Inv-loop μ-loop
 returns c =
-    c .before .loop .inv .1 ∙ ap (every (mark (c .before .before .args .marks .now))) (omega arith)
+    let at-loop = c .before in
+    let st = at-loop .before in
+    at-loop .loop .inv .1 ∙ ap (every (mark (st .args .marks .now))) (omega arith)
 
 pub all-marked-spec : {M : Type 1} → statement M
 all-marked-spec =

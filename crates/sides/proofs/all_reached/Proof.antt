@@ -24,7 +24,8 @@ walk-requires c κs =
     let at-far = c .before .before in
     let at-row = at-far .before in
     let st = at-row .before .before .before in
-    walks-start (st .pre .0) (st .pre .1) (at-row .row-at .ensures) (at-far .far .ensures) (st .pre .2)
+    walks-start (st .pre .0) (st .pre .1) (at-row .row-at .ensures) (at-far .far .ensures)
+    (st .pre .2)
 
 all-marked-requires : tie.Need-all-marked-requires
 all-marked-requires c κs =

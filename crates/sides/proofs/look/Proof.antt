@@ -17,8 +17,11 @@ hook-rows-requires : tie.Need-hook-rows-requires
 hook-rows-requires c κs =
     let told = c .before in
     let rows = told .before .before in
-    let st = rows .before .before in
-    (found-rowed (st .args .n) (st .args .t .now) (rows .check-rows .ensures) (told .enum-told .given .1), st .pre .0)
+    let st = rows .before .before in (
+      found-rowed (st .args .n) (st .args .t .now) (rows .check-rows .ensures)
+          (told .enum-told .given .1),
+      st .pre .0,
+    )
 
 all-reached-requires : tie.Need-all-reached-requires
 all-reached-requires c κs =
@@ -26,7 +29,8 @@ all-reached-requires c κs =
     let told = hooked .before .before in
     let rows = told .before .before in
     let st = rows .before .before in
-    let rowed = found-rowed (st .args .n) (st .args .t .now) (rows .check-rows .ensures) (told .enum-told .given .1) in
+    let rowed = found-rowed (st .args .n) (st .args .t .now) (rows .check-rows .ensures)
+    (told .enum-told .given .1) in
     (rowed, hooked .hook-rows .ensures .near, st .pre .1)
 
 returns : tie.Need-returns
@@ -35,7 +39,8 @@ returns c =
     let hooked = reached .before .before .before in
     let told = hooked .before .before in
     let rows = told .before .before in
-    found-tree (rows .check-rows .ensures) (told .enum-told .given .1) (reached .all-reached .ensures)
+    found-tree (rows .check-rows .ensures) (told .enum-told .given .1)
+    (reached .all-reached .ensures)
     (hooked .hook-rows .ensures .near) (c .if1 .taken)
 
 returns-2 : tie.Need-returns-2
@@ -49,7 +54,8 @@ returns-3 c =
     let reached = c .before in
     let told = reached .before .before .before .before .before in
     let rows = told .before .before in
-    found-5 (rows .check-rows .ensures) (told .enum-told .given .1) (reached .all-reached .ensures) (c .if1 .left)
+    found-5 (rows .check-rows .ensures) (told .enum-told .given .1) (reached .all-reached .ensures)
+    (c .if1 .left)
 
 pub look-spec : {M : Type 1} → statement M
 look-spec =

@@ -21,7 +21,11 @@ element-write-sides c = search needs
 
 returns : tie.Need-returns
 returns c =
-    sym (ap (λ (b : Bool). set (c .before .before .before .args .sides .now) (c .before .before .before .args .e) (pick b (c .before .before .before .args .s) (less (full (c .before .before .before .args .n)) (c .before .before .before .args .s)))) (eq-eqb (lo (c .before .before .before .args .t .now) (c .before .before .before .args .e)) (c .before .before .before .args .v) (sym (c .before .lo .ensures) ∙ c .if1 .taken)))
+    let at-lo = c .before in
+    let st = at-lo .before .before in
+    let a = st .args in
+    sym (ap (λ (b : Bool). set (a .sides .now) (a .e) (pick b (a .s) (less (full (a .n)) (a .s))))
+    (eq-eqb (lo (a .t .now) (a .e)) (a .v) (sym (at-lo .lo .ensures) ∙ c .if1 .taken)))
 
 full-requires : tie.Need-full-requires
 full-requires c κs = search needs
@@ -37,7 +41,15 @@ element-write-sides-2 c = search needs
 
 returns-2 : tie.Need-returns-2
 returns-2 c =
-    ap (set (c .before .before .before .before .before .args .sides .now) (c .before .before .before .before .before .args .e)) (c .less .ensures ∙ ap (λ (z : ℕ). less z (c .before .before .before .before .before .args .s)) (c .before .full .ensures)) ∙ sym (ap (λ (b : Bool). set (c .before .before .before .before .before .args .sides .now) (c .before .before .before .before .before .args .e) (pick b (c .before .before .before .before .before .args .s) (less (full (c .before .before .before .before .before .args .n)) (c .before .before .before .before .before .args .s)))) (ne-eqb (lo (c .before .before .before .before .before .args .t .now) (c .before .before .before .before .before .args .e)) (c .before .before .before .before .before .args .v) (λ d. c .before .before .if1 .left (c .before .before .before .lo .ensures ∙ d))))
+    let at-full = c .before in
+    let at-if1 = at-full .before in
+    let at-lo = at-if1 .before in
+    let st = at-lo .before .before in
+    let a = st .args in
+    ap (set (a .sides .now) (a .e)) (c .less .ensures ∙ ap (λ (z : ℕ). less z (a .s))
+    (at-full .full .ensures)) ∙ sym (ap (λ (b : Bool). set (a .sides .now) (a .e)
+    (pick b (a .s) (less (full (a .n)) (a .s)))) (ne-eqb (lo (a .t .now) (a .e)) (a .v)
+    (λ d. at-if1 .if1 .left (at-lo .lo .ensures ∙ d))))
 
 pub note-spec : {M : Type 1} → statement M
 note-spec =

@@ -27,7 +27,8 @@ returns-2 : tie.Need-returns-2
 returns-2 c =
     let at-if1 = c .before .before .before .before in
     let st = at-if1 .before .before in
-    listed-put (st .args .x) (st .args .len) (at-if1 .if1 .left) (c .before .before .insert .ensures)
+    listed-put (st .args .x) (st .args .len) (at-if1 .if1 .left)
+    (c .before .before .insert .ensures)
 
 pub add-spec : {M : Type 1} → statement M
 add-spec = tie.close (tie.spec returns insert-requires same-length returns-2)

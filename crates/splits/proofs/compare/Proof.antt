@@ -22,14 +22,19 @@ enum-told c = search needs
 
 compare-second-requires : tie.Need-compare-second-requires
 compare-second-requires c κs =
+    let at-enum-told = c .before in
+    let at-look = at-enum-told .before .before in
     let s = c .before .before .before .before .before .before .before .before in
-    let w = found-looked (c .before .before .before .look .ensures) (c .before .enum-told .given .1) in
+    let w = found-looked (at-look .look .ensures) (at-enum-told .enum-told .given .1) in
     looked-sided w
 
 returns : tie.Need-returns
 returns c =
+    let at-answer = c .before in
+    let at-look = at-answer .before .before in
     let s = c .before .before .before .before .before .before .before .before in
-    compares-first (s .args .n) (s .args .t .now) (s .args .u .now) (s .args .y) _ (found-refused (c .before .before .before .look .ensures) (c .before .answer .given .1))
+    compares-first (s .args .n) (s .args .t .now) (s .args .u .now) (s .args .y) _
+    (found-refused (at-look .look .ensures) (at-answer .answer .given .1))
 
 returns-2 : tie.Need-returns-2
 returns-2 c = search needs

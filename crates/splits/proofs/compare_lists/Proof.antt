@@ -19,12 +19,30 @@ first-lacking-requires c κs = search needs
 
 add-t6 : tie.Need-add-t6
 add-t6 c =
-    record { fits = omega (arith, c .before .before .count-lacking .ensures, c .before .count-lacking2 .ensures, lacks-most (c .before .before .before .before .before .args .a .now) (c .before .before .before .before .before .args .b .now), lacks-most (c .before .before .before .before .before .args .b .now) (c .before .before .before .before .before .args .a .now), c .before .before .before .before .before .pre .0 .few, c .before .before .before .before .before .pre .1 .few) }
+    let at-count-lacking2 = c .before in
+    let at-count-lacking = at-count-lacking2 .before in
+    let st = at-count-lacking .before .before .before in
+    let a = st .args in
+    record {
+      fits = omega (
+        arith,
+        at-count-lacking .count-lacking .ensures,
+        at-count-lacking2 .count-lacking2 .ensures,
+        lacks-most (a .a .now) (a .b .now),
+        lacks-most
+            (a .b .now) (a .a .now),
+        st .pre .0 .few,
+        st .pre .1 .few,
+      );
+    }
 
 returns : tie.Need-returns
 returns c =
+    let at-count-lacking2 = c .before in
+    let at-count-lacking = at-count-lacking2 .before in
     let pair : ℕ → ℕ → Said (ℕ × ℕ) = λ d x. gives (d, x) in
-    ap₂ pair (ap₂ _+_ (c .before .before .count-lacking .ensures) (c .before .count-lacking2 .ensures)) (c .first-lacking .ensures)
+    ap₂ pair (ap₂ _+_ (at-count-lacking .count-lacking .ensures)
+    (at-count-lacking2 .count-lacking2 .ensures)) (c .first-lacking .ensures)
 
 pub compare-lists-spec : {M : Type 1} → statement M
 compare-lists-spec =

@@ -24,30 +24,48 @@ enum-told c = search needs
 
 within-requires : tie.Need-within-requires
 within-requires c κs =
-    (omega (arith, c .before .before .before .before .before .before .before .pre .good .valid .big), c .before .before .before .before .before .before .before .pre .good .few)
+    let st = c .before .before .before .before .before .before .before in
+    (omega (arith, st .pre .good .valid .big), st .pre .good .few)
 
 compare-trees-requires : tie.Need-compare-trees-requires
 compare-trees-requires c κs =
+    let at-if1 = c .before in
+    let at-within = at-if1 .before in
+    let at-enum-told = at-within .before in
+    let at-look = at-enum-told .before .before in
     let s = c .before .before .before .before .before .before .before .before .before .before in
-    let w = found-looked (c .before .before .before .before .before .look .ensures) (c .before .before .before .enum-told .given .1) in
-    (s .pre, looked-sided w, ltb-true _ _ (sym (c .before .before .within .ensures) ∙ c .before .if1 .taken))
+    let w = found-looked (at-look .look .ensures) (at-enum-told .enum-told .given .1) in
+    (s .pre, looked-sided w, ltb-true _ _ (sym (at-within .within .ensures) ∙ at-if1 .if1 .taken))
 
 returns : tie.Need-returns
 returns c =
+    let at-if1 = c .before .before in
+    let at-within = at-if1 .before in
+    let at-enum-told = at-within .before in
+    let at-look = at-enum-told .before .before in
     let s = c .before .before .before .before .before .before .before .before .before .before .before in
-    let w = found-looked (c .before .before .before .before .before .before .look .ensures) (c .before .before .before .before .enum-told .given .1) in
-    compares-both (s .args .n) (s .args .t .now) (s .args .u .now) (s .args .y) (s .pre .good) (w .good) (sym (c .before .before .before .within .ensures) ∙ c .before .before .if1 .taken) (c .compare-trees .result) (c .compare-trees .ensures)
+    let w = found-looked (at-look .look .ensures) (at-enum-told .enum-told .given .1) in
+    compares-both (s .args .n) (s .args .t .now) (s .args .u .now) (s .args .y) (s .pre .good)
+    (w .good) (sym (at-within .within .ensures) ∙ at-if1 .if1 .taken) (c .compare-trees .result)
+    (c .compare-trees .ensures)
 
 returns-2 : tie.Need-returns-2
 returns-2 c =
+    let at-answer = c .before in
+    let at-look = at-answer .before .before in
     let s = c .before .before .before .before .before .before .before .before in
-    compares-second (s .args .n) (s .args .t .now) (s .args .u .now) (s .args .y) (s .pre .good) _ (found-refused (c .before .before .before .look .ensures) (c .before .answer .given .1))
+    compares-second (s .args .n) (s .args .t .now) (s .args .u .now) (s .args .y) (s .pre .good) _
+    (found-refused (at-look .look .ensures) (at-answer .answer .given .1))
 
 returns-3 : tie.Need-returns-3
 returns-3 c =
+    let at-within = c .before in
+    let at-enum-told = at-within .before in
+    let at-look = at-enum-told .before .before in
     let s = c .before .before .before .before .before .before .before .before .before in
-    let w = found-looked (c .before .before .before .before .look .ensures) (c .before .before .enum-told .given .1) in
-    compares-6 (s .args .n) (s .args .t .now) (s .args .u .now) (s .args .y) (s .pre .good) (w .good) (sym (c .before .within .ensures) ∙ c .if1 .left)
+    let w = found-looked (at-look .look .ensures) (at-enum-told .enum-told .given .1) in
+    compares-6 (s .args .n) (s .args .t .now) (s .args .u .now) (s .args .y) (s .pre .good)
+    (w .good) (sym (at-within .within .ensures) ∙ c .if1 .left)
 
 pub compare-second-spec : {M : Type 1} → statement M
 compare-second-spec =

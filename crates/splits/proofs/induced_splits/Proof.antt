@@ -22,14 +22,19 @@ enum-told c = search needs
 
 induced-tree-requires : tie.Need-induced-tree-requires
 induced-tree-requires c κs =
+    let at-enum-told = c .before .before in
+    let at-look = at-enum-told .before .before in
     let s = c .before .before .before .before .before .before .before .before .before in
-    let w = found-looked (c .before .before .before .before .look .ensures) (c .before .before .enum-told .given .1) in
+    let w = found-looked (at-look .look .ensures) (at-enum-told .enum-told .given .1) in
     looked-sided w
 
 returns : tie.Need-returns
 returns c =
+    let at-answer = c .before in
+    let at-look = at-answer .before .before in
     let s = c .before .before .before .before .before .before .before .before in
-    induces-tree (s .args .n) (s .args .t .now) (s .args .y) (s .args .out .now) _ (found-refused (c .before .before .before .look .ensures) (c .before .answer .given .1))
+    induces-tree (s .args .n) (s .args .t .now) (s .args .y) (s .args .out .now) _
+    (found-refused (at-look .look .ensures) (at-answer .answer .given .1))
 
 same-length : tie.Need-same-length
 same-length c = search needs

@@ -24,41 +24,64 @@ abbrev μ-loop : tie.MeasureT-loop
 returns : tie.Need-returns Inv-loop μ-loop
 returns c =
     let s = c .before .before in
-    let e : splitsOf (s .args .n) (s .args .y) (s .args .sides .now) (rows (s .args .n)) ≡ [] = ap (λ (z : ℕ). splitsOf (s .args .n) z (s .args .sides .now) (rows (s .args .n))) (c .if1 .taken) ∙ splits-none (s .args .n) (s .args .sides .now) (rows (s .args .n)) in
-    subst (λ (l : List ℕ). Listed l (s .args .out .now) 0 (s .args .out .now)) (sym e) (record { count = refl; memory = refl })
+    let e : splitsOf (s .args .n) (s .args .y) (s .args .sides .now) (rows (s .args .n)) ≡ [] =
+    ap (λ (z : ℕ). splitsOf (s .args .n) z (s .args .sides .now) (rows (s .args .n)))
+    (c .if1 .taken) ∙ splits-none (s .args .n) (s .args .sides .now) (rows (s .args .n)) in
+    subst (λ (l : List ℕ). Listed l (s .args .out .now) 0 (s .args .out .now)) (sym e)
+    (record { count = refl; memory = refl })
 
 lowest-requires : tie.Need-lowest-requires Inv-loop μ-loop
 lowest-requires c κs = search needs
 
 mul-m : tie.Need-mul-m Inv-loop μ-loop
 mul-m c =
-    omega (arith, c .before .before .before .pre .1)
+    let st = c .before .before .before in
+    omega (arith, st .pre .1)
 
 sub-m : tie.Need-sub-m Inv-loop μ-loop
 sub-m c =
-    omega (arith, c .before .before .before .pre .0)
+    let st = c .before .before .before in
+    omega (arith, st .pre .0)
 
 loop-holds : tie.Need-loop-holds Inv-loop μ-loop
 loop-holds c =
-    (search needs, listed-none (c .before .before .before .args .n) (c .before .before .before .args .y) (c .before .before .before .args .sides .now) (c .before .before .before .args .out .now) (c .before .before .before .pre .3))
+    let st = c .before .before .before in
+    let a = st .args in
+    (search needs, listed-none (a .n) (a .y) (a .sides .now) (a .out .now) (st .pre .3))
 
 mul-number : tie.Need-mul-number Inv-loop μ-loop
 mul-number c = search needs
 
 element-copy-out-number : tie.Need-element-copy-out-number Inv-loop μ-loop
 element-copy-out-number c =
-    omega (arith, c .before .before .before .before .before .pre .1)
+    let st = c .before .before .before .before .before in
+    omega (arith, st .pre .1)
 
 number-requires : tie.Need-number-requires Inv-loop μ-loop
 number-requires c κs =
-    (c .before .before .before .lowest .ensures, low-lt (c .before .before .before .before .before .before .args .n) (c .before .before .before .before .before .before .args .y) (c .before .before .before .lowest .result) (c .before .before .before .before .before .before .pre .1) (c .before .before .before .before .before .before .pre .2) (c .before .before .before .before .if1 .left) (c .before .before .before .lowest .ensures))
+    let at-lowest = c .before .before .before in
+    let at-if1 = at-lowest .before in
+    let st = at-if1 .before .before in
+    let a = st .args in (
+      at-lowest .lowest .ensures,
+      low-lt (a .n) (a .y) (at-lowest .lowest .result) (st .pre .1)
+          (st .pre .2) (at-if1 .if1 .left) (at-lowest .lowest .ensures),
+    )
 
 add-requires : tie.Need-add-requires Inv-loop μ-loop
 add-requires c κs =
+    let at-number = c .before in
+    let at-loop-test = at-number .before .before in
+    let at-loop = at-loop-test .before in
     let s = c .before .before .before .before .before .before .before .before in
-    let ex = c .before .number .ensures ∙ split-wide (s .args .n) most (s .args .y) _ (s .pre .1) (s .pre .2) in (
-      listed-fits (s .args .n) (s .args .y) (s .args .sides .now) (s .args .out .now) (s .pre .3) (c .before .before .before .before .loop .out) (c .before .before .before .before .loop .len) (c .before .before .before .before .loop .i) (c .before .before .before .before .loop .inv .0) (c .before .before .before .before .loop .inv .1),
-      listed-room (s .args .n) (s .args .y) (s .args .sides .now) (s .args .out .now) (s .pre .3) (c .before .before .before .before .loop .out) (c .before .before .before .before .loop .len) (c .before .before .before .before .loop .i) (c .before .before .before .before .loop .inv .0) (c .before .before .before .before .loop .inv .1) (c .before .number .result) (c .before .before .before .loop-test .taken) ex,
+    let ex = at-number .number .ensures ∙ split-wide (s .args .n) most (s .args .y) _ (s .pre .1)
+    (s .pre .2) in (
+      listed-fits (s .args .n) (s .args .y) (s .args .sides .now) (s .args .out .now) (s .pre .3)
+          (at-loop .loop .out) (at-loop .loop .len) (at-loop .loop .i) (at-loop .loop .inv .0)
+          (at-loop .loop .inv .1),
+      listed-room (s .args .n) (s .args .y) (s .args .sides .now) (s .args .out .now) (s .pre .3)
+          (at-loop .loop .out) (at-loop .loop .len) (at-loop .loop .i) (at-loop .loop .inv .0)
+          (at-loop .loop .inv .1) (at-number .number .result) (at-loop-test .loop-test .taken) ex,
     )
 
 add-i : tie.Need-add-i Inv-loop μ-loop
@@ -69,20 +92,35 @@ loop-less c = search needs
 
 loop-again : tie.Need-loop-again Inv-loop μ-loop
 loop-again c =
+    let at-add = c .before .before in
+    let at-number = at-add .before .before in
+    let at-loop-test = at-number .before .before in
+    let at-loop = at-loop-test .before in
     let s = c .before .before .before .before .before .before .before .before .before .before .before in
-    let ex = c .before .before .before .before .number .ensures ∙ split-wide (s .args .n) most (s .args .y) _ (s .pre .1) (s .pre .2) in
-    (omega arith, listed-more (s .args .n) (s .args .y) (s .args .sides .now) (s .args .out .now) (s .pre .3) (c .before .before .before .before .before .before .before .loop .out) (c .before .before .before .before .before .before .before .loop .len) (c .before .before .before .before .before .before .before .loop .i) (c .before .before .before .before .before .before .before .loop .inv .0) (c .before .before .before .before .before .before .before .loop .inv .1) (c .before .before .before .before .number .result) (c .before .before .before .before .before .before .loop-test .taken) ex _ _ (c .before .before .add .ensures))
+    let ex = at-number .number .ensures ∙ split-wide (s .args .n) most (s .args .y) _ (s .pre .1)
+    (s .pre .2) in (
+      omega arith,
+      listed-more (s .args .n) (s .args .y) (s .args .sides .now) (s .args .out .now)
+          (s .pre .3) (at-loop .loop .out) (at-loop .loop .len) (at-loop .loop .i) (at-loop .loop .inv .0)
+          (at-loop .loop .inv .1) (at-number .number .result) (at-loop-test .loop-test .taken) ex _ _
+          (at-add .add .ensures),
+    )
 
 same-length : tie.Need-same-length Inv-loop μ-loop
 same-length c =
+    let at-loop = c .before in
     let s = c .before .before .before .before .before in
-    listed-length (s .args .n) (s .args .y) (s .args .sides .now) (s .args .out .now) (s .pre .3) (c .before .loop .out) (c .before .loop .len) (c .before .loop .i) (c .before .loop .inv .0) (c .before .loop .inv .1)
+    listed-length (s .args .n) (s .args .y) (s .args .sides .now) (s .args .out .now) (s .pre .3)
+    (at-loop .loop .out) (at-loop .loop .len) (at-loop .loop .i) (at-loop .loop .inv .0)
+    (at-loop .loop .inv .1)
 
 returns-2 : tie.Need-returns-2 Inv-loop μ-loop
 returns-2 c =
+    let at-loop = c .before in
     let s = c .before .before .before .before .before in
-    let done : c .before .loop .i ≡ rows (s .args .n) = omega arith in
-    subst (λ (k : ℕ). Listed (splitsOf (s .args .n) (s .args .y) (s .args .sides .now) k) (s .args .out .now) (c .before .loop .len) (c .before .loop .out)) done (c .before .loop .inv .1)
+    let done : at-loop .loop .i ≡ rows (s .args .n) = omega arith in
+    subst (λ (k : ℕ). Listed (splitsOf (s .args .n) (s .args .y) (s .args .sides .now) k)
+    (s .args .out .now) (at-loop .loop .len) (at-loop .loop .out)) done (at-loop .loop .inv .1)
 
 pub list-spec : {M : Type 1} → statement M
 list-spec =

@@ -24,8 +24,12 @@ abbrev μ-loop : tie.MeasureT-loop
 
 loop-holds : tie.Need-loop-holds Inv-loop μ-loop
 loop-holds c =
-    let a = c .args in
-    (search needs, search needs, sym (all-every (hasFrom (a .d .now) (a .from) (a .k)) (a .from) (λ r l. ap (λ (b : Bool). b || eqb (getD (a .d .now) r 0) (a .k)) (lt-ltb r (a .from) l))))
+    let a = c .args in (
+      search needs,
+      search needs,
+      sym (all-every (hasFrom (a .d .now) (a .from) (a .k)) (a .from)
+          (λ r l. ap (λ (b : Bool). b || eqb (getD (a .d .now) r 0) (a .k)) (lt-ltb r (a .from) l))),
+    )
 
 element-copy-out-bad : tie.Need-element-copy-out-bad Inv-loop μ-loop
 element-copy-out-bad c = search needs
@@ -41,16 +45,25 @@ loop-less c = search needs
 
 loop-again : tie.Need-loop-again Inv-loop μ-loop
 loop-again c =
-    let a = c .before .before .before .args in
-    let at = c .before .before .loop in
+    let at-loop = c .before .before in
+    let st = at-loop .before in
+    let a = st .args in
+    let at = at-loop .loop in
     let here = eqb (getD (a .d .now) (at .v) 0) (a .k) in
-    let none = byte-none (not here) ∙ Bool·not-not here ∙ sym (ap (λ (b : Bool). b || here) (le-ltb (at .v) (a .from) (at .inv .0))) in
-    (search needs, search needs, gather-more (hasFrom (a .d .now) (a .from) (a .k)) (at .v) (at .bad) _ (at .inv .2) none)
+    let none = byte-none (not here) ∙ Bool·not-not here ∙ sym (ap (λ (b : Bool). b || here)
+    (le-ltb (at .v) (a .from) (at .inv .0))) in (
+      search needs,
+      search needs,
+      gather-more (hasFrom (a .d .now) (a .from) (a .k)) (at .v)
+          (at .bad) _ (at .inv .2) none,
+    )
 
 returns : tie.Need-returns Inv-loop μ-loop
 returns c =
-    let a = c .before .before .args in
-    c .before .loop .inv .2 ∙ ap (every (hasFrom (a .d .now) (a .from) (a .k))) (omega arith)
+    let at-loop = c .before in
+    let st = at-loop .before in
+    let a = st .args in
+    at-loop .loop .inv .2 ∙ ap (every (hasFrom (a .d .now) (a .from) (a .k))) (omega arith)
 
 pub all-at-spec : {M : Type 1} → statement M
 all-at-spec =

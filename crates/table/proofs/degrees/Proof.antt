@@ -28,43 +28,90 @@ sub-m c =
 
 loop-holds : tie.Need-loop-holds Inv-loop μ-loop
 loop-holds c =
-    (search needs, counted-none (c .before .args .n) (c .before .args .t .now) (c .before .pre .few))
+    let st = c .before in
+    let a = st .args in
+    (search needs, counted-none (a .n) (a .t .now) (st .pre .few))
 
 lo-requires : tie.Need-lo-requires Inv-loop μ-loop
 lo-requires c κs =
-    omega (arith, c .before .before .before .pre .len)
+    let st = c .before .before .before in
+    omega (arith, st .pre .len)
 
 hi-requires : tie.Need-hi-requires Inv-loop μ-loop
 hi-requires c κs =
-    omega (arith, c .before .before .before .before .pre .len)
+    let st = c .before .before .before .before in
+    omega (arith, st .pre .len)
 
 array-read-d : tie.Need-array-read-d Inv-loop μ-loop
 array-read-d c =
-    let o = c .before .before .before .before .before .pre .order (c .before .before .before .loop .i) (c .before .before .loop-test .taken) in
-    omega (arith, c .before .lo .ensures, o .0, o .1, c .before .before .before .before .before .pre .few)
+    let at-lo = c .before in
+    let at-loop-test = at-lo .before in
+    let at-loop = at-loop-test .before in
+    let st = at-loop .before .before in
+    let o = st .pre .order (at-loop .loop .i) (at-loop-test .loop-test .taken) in
+    omega (arith, at-lo .lo .ensures, o .0, o .1, st .pre .few)
 
 add-d : tie.Need-add-d Inv-loop μ-loop
 add-d c =
-    record { fits = omega (arith, ap (λ (k : ℕ). getD (c .before .before .before .loop .d) k 0) (c .before .lo .ensures), lo-fits (c .before .before .before .before .before .args .n) (c .before .before .before .before .before .args .t .now) (c .before .before .before .loop .d) (c .before .before .before .loop .i) (c .before .before .before .before .before .pre) (c .before .before .loop-test .taken) (c .before .before .before .loop .inv .1), c .before .before .before .before .before .pre .few) }
+    let at-lo = c .before in
+    let at-loop-test = at-lo .before in
+    let at-loop = at-loop-test .before in
+    let st = at-loop .before .before in
+    let a = st .args in
+    record {
+      fits = omega (
+        arith,
+        ap (λ (k : ℕ). getD (at-loop .loop .d) k 0) (at-lo .lo .ensures),
+        lo-fits (a .n) (a .t .now) (at-loop .loop .d) (at-loop .loop .i) (st .pre)
+            (at-loop-test .loop-test .taken) (at-loop .loop .inv .1),
+        st .pre .few,
+      );
+    }
 
 array-write-d : tie.Need-array-write-d Inv-loop μ-loop
 array-write-d c =
-    let o = c .before .before .before .before .before .pre .order (c .before .before .before .loop .i) (c .before .before .loop-test .taken) in
-    omega (arith, c .before .lo .ensures, o .0, o .1, c .before .before .before .before .before .pre .few)
+    let at-lo = c .before in
+    let at-loop-test = at-lo .before in
+    let at-loop = at-loop-test .before in
+    let st = at-loop .before .before in
+    let o = st .pre .order (at-loop .loop .i) (at-loop-test .loop-test .taken) in
+    omega (arith, at-lo .lo .ensures, o .0, o .1, st .pre .few)
 
 array-read-d-2 : tie.Need-array-read-d-2 Inv-loop μ-loop
 array-read-d-2 c =
-    let o = c .before .before .before .before .before .pre .order (c .before .before .before .loop .i) (c .before .before .loop-test .taken) in
-    omega (arith, c .hi .ensures, o .1, c .before .before .before .before .before .pre .few)
+    let at-loop-test = c .before .before in
+    let at-loop = at-loop-test .before in
+    let st = at-loop .before .before in
+    let o = st .pre .order (at-loop .loop .i) (at-loop-test .loop-test .taken) in
+    omega (arith, c .hi .ensures, o .1, st .pre .few)
 
 add-d-2 : tie.Need-add-d-2 Inv-loop μ-loop
 add-d-2 c =
-    record { fits = omega (arith, ap (λ (k : ℕ). getD (set (c .before .before .before .loop .d) (c .before .lo .result) (getD (c .before .before .before .loop .d) (c .before .lo .result) 0 + 1)) k 0) (c .hi .ensures), hi-fits (c .before .before .before .before .before .args .n) (c .before .before .before .before .before .args .t .now) (c .before .before .before .loop .d) (c .before .before .before .loop .i) (c .before .before .before .before .before .pre) (c .before .before .loop-test .taken) (c .before .before .before .loop .inv .1) (c .before .lo .result) (getD (c .before .before .before .loop .d) (c .before .lo .result) 0 + 1) (c .before .lo .ensures) refl, c .before .before .before .before .before .pre .few) }
+    let at-lo = c .before in
+    let at-loop-test = at-lo .before in
+    let at-loop = at-loop-test .before in
+    let st = at-loop .before .before in
+    let a = st .args in
+    record {
+      fits = omega (
+        arith,
+        ap (λ (k : ℕ). getD (set (at-loop .loop .d) (at-lo .lo .result)
+            (getD (at-loop .loop .d) (at-lo .lo .result) 0 + 1)) k 0) (c .hi .ensures),
+        hi-fits (a .n)
+            (a .t .now) (at-loop .loop .d) (at-loop .loop .i) (st .pre) (at-loop-test .loop-test .taken)
+            (at-loop .loop .inv .1) (at-lo .lo .result) (getD (at-loop .loop .d) (at-lo .lo .result) 0 + 1)
+            (at-lo .lo .ensures) refl,
+        st .pre .few,
+      );
+    }
 
 array-write-d-2 : tie.Need-array-write-d-2 Inv-loop μ-loop
 array-write-d-2 c =
-    let o = c .before .before .before .before .before .pre .order (c .before .before .before .loop .i) (c .before .before .loop-test .taken) in
-    omega (arith, c .hi .ensures, o .1, c .before .before .before .before .before .pre .few)
+    let at-loop-test = c .before .before in
+    let at-loop = at-loop-test .before in
+    let st = at-loop .before .before in
+    let o = st .pre .order (at-loop .loop .i) (at-loop-test .loop-test .taken) in
+    omega (arith, c .hi .ensures, o .1, st .pre .few)
 
 add-i : tie.Need-add-i Inv-loop μ-loop
 add-i c = search needs
@@ -74,12 +121,24 @@ loop-less c = search needs
 
 loop-again : tie.Need-loop-again Inv-loop μ-loop
 loop-again c =
-    (omega arith, counted-more (c .before .before .before .before .before .args .n) (c .before .before .before .before .before .args .t .now) (c .before .before .before .loop .d) (c .before .before .before .loop .i) (c .before .before .before .before .before .pre) (c .before .before .loop-test .taken) (c .before .before .before .loop .inv .1) (c .before .lo .result) (c .hi .result) _ _ (c .before .lo .ensures) (c .hi .ensures) refl refl)
+    let at-lo = c .before in
+    let at-loop-test = at-lo .before in
+    let at-loop = at-loop-test .before in
+    let st = at-loop .before .before in
+    let a = st .args in (
+      omega arith,
+      counted-more (a .n) (a .t .now) (at-loop .loop .d) (at-loop .loop .i) (st .pre)
+          (at-loop-test .loop-test .taken) (at-loop .loop .inv .1) (at-lo .lo .result) (c .hi .result) _ _
+          (at-lo .lo .ensures) (c .hi .ensures) refl refl,
+    )
 
 returns : tie.Need-returns Inv-loop μ-loop
 returns c =
-    let done : c .before .loop .i ≡ rows (c .before .before .before .args .n) = omega arith in
-    subst (λ (k : ℕ). Counted (c .before .before .before .args .n) (c .before .before .before .args .t .now) (c .before .loop .d) k) done (c .before .loop .inv .1)
+    let at-loop = c .before in
+    let st = at-loop .before .before in
+    let a = st .args in
+    let done : at-loop .loop .i ≡ rows (a .n) = omega arith in
+    subst (λ (k : ℕ). Counted (a .n) (a .t .now) (at-loop .loop .d) k) done (at-loop .loop .inv .1)
 
 pub degrees-spec : {M : Type 1} → statement M
 degrees-spec =

@@ -13,8 +13,11 @@ all-at-requires c κs = search needs
 
 returns : tie.Need-returns
 returns c =
-    let a = c .before .before .args in
-    sym (two-stretches (a .n) (a .d .now) false _ (sym (not-true _ (c .if1 .taken)) ∙ c .before .all-at .ensures) refl (omega arith))
+    let at-all-at = c .before in
+    let st = at-all-at .before in
+    let a = st .args in
+    sym (two-stretches (a .n) (a .d .now) false _ (sym (not-true _ (c .if1 .taken))
+    ∙ at-all-at .all-at .ensures) refl (omega arith))
 
 mul-all-at : tie.Need-mul-all-at
 mul-all-at c = search needs
@@ -27,8 +30,12 @@ all-at-requires-2 c κs = search needs
 
 returns-2 : tie.Need-returns-2
 returns-2 c =
-    let a = c .before .before .before .args in
-    sym (two-stretches (a .n) (a .d .now) true _ (sym (not-false _ (c .before .if1 .left)) ∙ c .before .before .all-at .ensures) (c .all-at2 .ensures) (omega arith))
+    let at-if1 = c .before in
+    let at-all-at = at-if1 .before in
+    let st = at-all-at .before in
+    let a = st .args in
+    sym (two-stretches (a .n) (a .d .now) true _ (sym (not-false _ (at-if1 .if1 .left))
+    ∙ at-all-at .all-at .ensures) (c .all-at2 .ensures) (omega arith))
 
 pub degrees-right-spec : {M : Type 1} → statement M
 degrees-right-spec =

@@ -17,18 +17,27 @@ hi-requires c κs = search needs
 returns : tie.Need-returns
 unfolding far
 returns c =
-    let t = c .before .before .before .before .args .t .now in
-    let r = c .before .before .before .before .args .r in
-    let v = c .before .before .before .before .args .v in
-    c .hi .ensures ∙ sym (ap (λ (b : Bool). pick b (hi t r) (lo t r)) (eq-eqb (lo t r) v (sym (c .before .before .lo .ensures) ∙ c .before .if1 .taken)))
+    let at-if1 = c .before in
+    let at-lo = at-if1 .before in
+    let st = at-lo .before .before in
+    let a = st .args in
+    let t = a .t .now in
+    let r = a .r in
+    let v = a .v in
+    c .hi .ensures ∙ sym (ap (λ (b : Bool). pick b (hi t r) (lo t r))
+    (eq-eqb (lo t r) v (sym (at-lo .lo .ensures) ∙ at-if1 .if1 .taken)))
 
 returns-2 : tie.Need-returns-2
 unfolding far
 returns-2 c =
-    let t = c .before .before .before .args .t .now in
-    let r = c .before .before .before .args .r in
-    let v = c .before .before .before .args .v in
-    c .before .lo .ensures ∙ sym (ap (λ (b : Bool). pick b (hi t r) (lo t r)) (ne-eqb (lo t r) v (λ d. c .if1 .left (c .before .lo .ensures ∙ d))))
+    let at-lo = c .before in
+    let st = at-lo .before .before in
+    let a = st .args in
+    let t = a .t .now in
+    let r = a .r in
+    let v = a .v in
+    at-lo .lo .ensures ∙ sym (ap (λ (b : Bool). pick b (hi t r) (lo t r))
+    (ne-eqb (lo t r) v (λ d. c .if1 .left (at-lo .lo .ensures ∙ d))))
 
 pub far-spec : {M : Type 1} → statement M
 far-spec = tie.close (tie.spec lo-requires hi-requires returns returns-2)

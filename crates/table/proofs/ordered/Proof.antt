@@ -67,14 +67,21 @@ loop-less c = search needs
 
 loop-again : tie.Need-loop-again Inv-loop μ-loop
 loop-again c =
-    let a = c .before .before .before .before .args in
-    let at = c .before .before .before .loop in
-    (search needs, gather-more (fine (a .n) (a .t .now)) (at .j) (at .bad) _ (at .inv .1) (wrong-none (a .n) (a .t .now) (at .j)))
+    let at-loop = c .before .before .before in
+    let st = at-loop .before in
+    let a = st .args in
+    let at = at-loop .loop in (
+      search needs,
+      gather-more (fine (a .n) (a .t .now)) (at .j) (at .bad) _ (at .inv .1)
+          (wrong-none (a .n) (a .t .now) (at .j)),
+    )
 
 returns : tie.Need-returns Inv-loop μ-loop
 returns c =
-    let a = c .before .before .args in
-    let at = c .before .loop in
+    let at-loop = c .before in
+    let st = at-loop .before in
+    let a = st .args in
+    let at = at-loop .loop in
     at .inv .1 ∙ every-fine (a .n) (a .t .now) (at .j) (omega arith)
 
 pub ordered-spec : {M : Type 1} → statement M

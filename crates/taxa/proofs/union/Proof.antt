@@ -35,15 +35,21 @@ loop-less c = search needs
 
 loop-again : tie.Need-loop-again Inv-loop μ-loop
 loop-again c =
-    let at = c .before .before .loop in
-    let ys = c .before .before .before .args .ys .now in
-    (search needs, at .inv .1 ∙ joined-next ys (at .all) (at .i) (c .before .loop-test .taken))
+    let at-loop-test = c .before in
+    let at-loop = at-loop-test .before in
+    let st = at-loop .before in
+    let at = at-loop .loop in
+    let ys = st .args .ys .now in
+    (search needs, at .inv .1 ∙ joined-next ys (at .all) (at .i) (at-loop-test .loop-test .taken))
 
 returns : tie.Need-returns Inv-loop μ-loop
 returns c =
-    let at = c .before .loop in
-    let ys = c .before .before .args .ys .now in
-    sym (at .inv .1 ∙ joined-end ys (at .all) (at .i) (omega (arith, at .inv .0, c .loop-test .left)))
+    let at-loop = c .before in
+    let st = at-loop .before in
+    let at = at-loop .loop in
+    let ys = st .args .ys .now in
+    sym (at .inv .1 ∙ joined-end ys (at .all) (at .i)
+    (omega (arith, at .inv .0, c .loop-test .left)))
 
 pub union-spec : {M : Type 1} → statement M
 union-spec =

@@ -11,7 +11,9 @@ full-requires c κs = search needs
 
 returns : tie.Need-returns
 returns c =
-    ap (leb (c .before .args .y)) (c .full .ensures) ∙ within-is (c .before .args .n) (c .before .args .y)
+    let st = c .before in
+    let a = st .args in
+    ap (leb (a .y)) (c .full .ensures) ∙ within-is (a .n) (a .y)
 
 pub within-spec : {M : Type 1} → statement M
 within-spec = tie.close (tie.spec full-requires returns)

@@ -32,11 +32,21 @@ width-width-requires t c κs =
 
 width-add-result : (t : ℕ) → width-lts.Need-add-result (width-below t, width.Post) (width-at t) width.Post
 width-add-result t c =
-    record { fits = omega (arith, c .width .ensures, decimal-few (c .before .before .args .n / 10) (omega (arith, c .before .before .fits .n .fits))) }
+    let st = c .before .before in
+    record {
+      fits = omega (
+        arith,
+        c .width .ensures,
+        decimal-few (st .args .n / 10)
+            (omega (arith, st .fits .n .fits)),
+      );
+    }
 
 width-returns-2 : (t : ℕ) → width-lts.Need-returns-2 (width-below t, width.Post) (width-at t) width.Post
 width-returns-2 t c =
-    ap (λ (k : ℕ). k + 1) (c .width .ensures) ∙ decimal-more (c .before .before .args .n) (c .before .if1 .left)
+    let at-if1 = c .before in
+    let st = at-if1 .before in
+    ap (λ (k : ℕ). k + 1) (c .width .ensures) ∙ decimal-more (st .args .n) (at-if1 .if1 .left)
 
 pub +width-spec : {M : Type 1} → statement M
 +width-spec =

@@ -26,11 +26,18 @@ mul-if1 c =
 
 mul-if1-2 : tie.Need-mul-if1-2 Inv-loop μ-loop
 mul-if1-2 c =
-    omega (arith, bin-fits (c .before .loop .i) (c .before .before .args .k) (c .loop-test .taken) (c .before .before .pre .1))
+    let at-loop = c .before in
+    let st = at-loop .before in
+    omega (arith, bin-fits (at-loop .loop .i) (st .args .k) (c .loop-test .taken) (st .pre .1))
 
 returns : tie.Need-returns Inv-loop μ-loop
 returns c =
-    bin-here (c .before .before .before .args .s) (c .before .before .before .args .k) (c .before .before .loop .i) (c .before .loop-test .taken) (omega arith) ∙ c .before .before .loop .inv .1
+    let at-loop-test = c .before in
+    let at-loop = at-loop-test .before in
+    let st = at-loop .before in
+    let a = st .args in
+    bin-here (a .s) (a .k) (at-loop .loop .i) (at-loop-test .loop-test .taken) (omega arith)
+    ∙ at-loop .loop .inv .1
 
 add-i : tie.Need-add-i Inv-loop μ-loop
 add-i c = search needs
@@ -40,11 +47,21 @@ loop-less c = search needs
 
 loop-again : tie.Need-loop-again Inv-loop μ-loop
 loop-again c =
-    (omega arith, sym (bin-next (c .before .before .before .args .s) (c .before .before .before .args .k) (c .before .before .loop .i) (c .before .loop-test .taken) (omega arith)) ∙ c .before .before .loop .inv .1)
+    let at-loop-test = c .before in
+    let at-loop = at-loop-test .before in
+    let st = at-loop .before in
+    let a = st .args in (
+      omega arith,
+      sym (bin-next (a .s) (a .k) (at-loop .loop .i) (at-loop-test .loop-test .taken)
+          (omega arith)) ∙ at-loop .loop .inv .1,
+    )
 
 returns-2 : tie.Need-returns-2 Inv-loop μ-loop
 returns-2 c =
-    bin-last (c .before .before .args .s) (c .before .before .args .k) (c .before .loop .i) (c .loop-test .left) ∙ c .before .loop .inv .1
+    let at-loop = c .before in
+    let st = at-loop .before in
+    let a = st .args in
+    bin-last (a .s) (a .k) (at-loop .loop .i) (c .loop-test .left) ∙ at-loop .loop .inv .1
 
 pub class-bin-spec : {M : Type 1} → statement M
 class-bin-spec =

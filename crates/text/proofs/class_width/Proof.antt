@@ -12,7 +12,10 @@ returns c =
 
 returns-2 : tie.Need-returns-2
 returns-2 c =
-    sym (full-bytes (c .before .before .args .s) (c .before .before .args .k) (c .before .if1 .left) (c .if2 .taken))
+    let at-if1 = c .before in
+    let st = at-if1 .before in
+    let a = st .args in
+    sym (full-bytes (a .s) (a .k) (at-if1 .if1 .left) (c .if2 .taken))
 
 class-bin-requires : tie.Need-class-bin-requires
 class-bin-requires c κs = search needs
@@ -22,11 +25,30 @@ width-requires c κs = search needs
 
 add-result : tie.Need-add-result
 add-result c =
-    omega (arith, class-few (c .before .before .before .before .args .s) (c .before .before .before .before .args .k), part-bytes (c .before .before .before .before .args .s) (c .before .before .before .before .args .k) (c .before .before .before .if1 .left) (c .before .before .if2 .left) (c .before .class-bin .ensures))
+    let at-class-bin = c .before in
+    let at-if2 = at-class-bin .before in
+    let at-if1 = at-if2 .before in
+    let st = at-if1 .before in
+    let a = st .args in
+    omega (
+      arith,
+      class-few (a .s) (a .k),
+      part-bytes (a .s) (a .k) (at-if1 .if1 .left)
+          (at-if2 .if2 .left) (at-class-bin .class-bin .ensures),
+    )
 
 returns-3 : tie.Need-returns-3
 returns-3 c =
-    omega (arith, part-bytes (c .before .before .before .before .args .s) (c .before .before .before .before .args .k) (c .before .before .before .if1 .left) (c .before .before .if2 .left) (c .before .class-bin .ensures))
+    let at-class-bin = c .before in
+    let at-if2 = at-class-bin .before in
+    let at-if1 = at-if2 .before in
+    let st = at-if1 .before in
+    let a = st .args in
+    omega (
+      arith,
+      part-bytes (a .s) (a .k) (at-if1 .if1 .left) (at-if2 .if2 .left)
+          (at-class-bin .class-bin .ensures),
+    )
 
 pub class-width-spec : {M : Type 1} → statement M
 class-width-spec =

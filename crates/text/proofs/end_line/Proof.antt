@@ -12,18 +12,21 @@ slice-aggregate-then-word c = search needs
 
 then-word-requires : tie.Need-then-word-requires
 then-word-requires c κs =
-    omega (arith, end-bytes (c .before .before .before .args .m))
+    let st = c .before .before .before in
+    omega (arith, end-bytes (st .args .m))
 
 then-number-requires : tie.Need-then-number-requires
 then-number-requires c κs =
-    omega (arith, end-bytes (c .before .before .before .before .before .before .before .args .m))
+    let st = c .before .before .before .before .before .before .before in
+    omega (arith, end-bytes (st .args .m))
 
 slice-aggregate-then-word-2 : tie.Need-slice-aggregate-then-word-2
 slice-aggregate-then-word-2 c = search needs
 
 then-word-requires-2 : tie.Need-then-word-requires-2
 then-word-requires-2 c κs =
-    omega (arith, end-bytes (c .before .before .before .before .before .before .before .before .before .before .before .before .args .m))
+    let st = c .before .before .before .before .before .before .before .before .before .before .before .before in
+    omega (arith, end-bytes (st .args .m))
 
 same-length : tie.Need-same-length
 same-length c = search needs
@@ -31,7 +34,13 @@ same-length c = search needs
 returns : tie.Need-returns
 unfolding endWord
 returns c =
-    end-made (c .before .before .before .before .before .before .before .before .before .before .before .before .before .before .before .args .out .now) (c .before .before .before .before .before .before .before .before .before .before .before .before .before .before .before .args .m) (c .before .before .before .before .before .before .before .before .before .before .before .before .before .before .before .pre) (c .before .before .before .before .before .before .before .before .before .before .before .then-word .ensures) (c .before .before .before .before .before .before .before .then-number .ensures) (c .before .before .then-word2 .ensures)
+    let at-then-word2 = c .before .before in
+    let at-then-number = at-then-word2 .before .before .before .before .before in
+    let at-then-word = at-then-number .before .before .before .before in
+    let st = at-then-word .before .before .before .before in
+    let a = st .args in
+    end-made (a .out .now) (a .m) (st .pre) (at-then-word .then-word .ensures)
+    (at-then-number .then-number .ensures) (at-then-word2 .then-word2 .ensures)
 
 pub end-line-spec : {M : Type 1} → statement M
 end-line-spec =

@@ -20,14 +20,25 @@ slice-aggregate-copy c = search needs
 
 copy-requires : tie.Need-copy-requires
 copy-requires c κs =
-    omega (arith, ap length (c .before .before .decimal .ensures .1 .1 ∙ fewest-decimal (c .before .before .before .before .before .args .n) _ (c .before .before .decimal .ensures .1 .0)))
+    let at-decimal = c .before .before in
+    let st = at-decimal .before .before .before in
+    omega (
+      arith,
+      ap length (at-decimal .decimal .ensures .1 .1 ∙ fewest-decimal (st .args .n) _
+          (at-decimal .decimal .ensures .1 .0)),
+    )
 
 same-length : tie.Need-same-length
 same-length c = search needs
 
 returns : tie.Need-returns
 returns c =
-    copied _ (decimal (c .before .before .before .before .before .before .before .before .args .n)) _ (c .before .before .before .before .before .decimal .ensures .1 .1 ∙ fewest-decimal (c .before .before .before .before .before .before .before .before .args .n) _ (c .before .before .before .before .before .decimal .ensures .1 .0)) (c .before .before .copy .ensures .0) (c .before .before .copy .ensures .1)
+    let at-copy = c .before .before in
+    let at-decimal = at-copy .before .before .before in
+    let st = at-decimal .before .before .before in
+    let a = st .args in
+    copied _ (decimal (a .n)) _ (at-decimal .decimal .ensures .1 .1 ∙ fewest-decimal (a .n) _
+    (at-decimal .decimal .ensures .1 .0)) (at-copy .copy .ensures .0) (at-copy .copy .ensures .1)
 
 pub number-spec : {M : Type 1} → statement M
 number-spec =

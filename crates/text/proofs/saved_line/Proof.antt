@@ -9,36 +9,48 @@ use Rattle.text.proofs.saved_line.Tie as tie
 
 number-requires : tie.Need-number-requires
 number-requires c κs =
-    omega (arith, saved-bytes (c .before .before .args .m) (c .before .before .args .s) (c .before .before .args .same) (c .before .before .args .k))
+    let st = c .before .before in
+    let a = st .args in
+    omega (arith, saved-bytes (a .m) (a .s) (a .same) (a .k))
 
 slice-aggregate-then-word : tie.Need-slice-aggregate-then-word
 slice-aggregate-then-word c = search needs
 
 then-word-requires : tie.Need-then-word-requires
 then-word-requires c κs =
-    omega (arith, saved-bytes (c .before .before .before .before .before .before .before .args .m) (c .before .before .before .before .before .before .before .args .s) (c .before .before .before .before .before .before .before .args .same) (c .before .before .before .before .before .before .before .args .k))
+    let st = c .before .before .before .before .before .before .before in
+    let a = st .args in
+    omega (arith, saved-bytes (a .m) (a .s) (a .same) (a .k))
 
 then-number-requires : tie.Need-then-number-requires
 then-number-requires c κs =
-    omega (arith, saved-bytes (c .before .before .before .before .before .before .before .before .before .before .before .args .m) (c .before .before .before .before .before .before .before .before .before .before .before .args .s) (c .before .before .before .before .before .before .before .before .before .before .before .args .same) (c .before .before .before .before .before .before .before .before .before .before .before .args .k))
+    let st = c .before .before .before .before .before .before .before .before .before .before .before in
+    let a = st .args in
+    omega (arith, saved-bytes (a .m) (a .s) (a .same) (a .k))
 
 slice-aggregate-then-word-2 : tie.Need-slice-aggregate-then-word-2
 slice-aggregate-then-word-2 c = search needs
 
 then-word-requires-2 : tie.Need-then-word-requires-2
 then-word-requires-2 c κs =
-    omega (arith, saved-bytes (c .before .before .before .before .before .before .before .before .before .before .before .before .before .before .before .before .args .m) (c .before .before .before .before .before .before .before .before .before .before .before .before .before .before .before .before .args .s) (c .before .before .before .before .before .before .before .before .before .before .before .before .before .before .before .before .args .same) (c .before .before .before .before .before .before .before .before .before .before .before .before .before .before .before .before .args .k))
+    let st = c .before .before .before .before .before .before .before .before .before .before .before .before .before .before .before .before in
+    let a = st .args in
+    omega (arith, saved-bytes (a .m) (a .s) (a .same) (a .k))
 
 then-class-requires : tie.Need-then-class-requires
 then-class-requires c κs =
-    (c .before .before .before .before .before .before .before .before .before .before .before .before .before .before .before .before .before .before .before .before .pre .0, c .before .before .before .before .before .before .before .before .before .before .before .before .before .before .before .before .before .before .before .before .pre .1, omega (arith, saved-bytes (c .before .before .before .before .before .before .before .before .before .before .before .before .before .before .before .before .before .before .before .before .args .m) (c .before .before .before .before .before .before .before .before .before .before .before .before .before .before .before .before .before .before .before .before .args .s) (c .before .before .before .before .before .before .before .before .before .before .before .before .before .before .before .before .before .before .before .before .args .same) (c .before .before .before .before .before .before .before .before .before .before .before .before .before .before .before .before .before .before .before .before .args .k)))
+    let st = c .before .before .before .before .before .before .before .before .before .before .before .before .before .before .before .before .before .before .before .before in
+    let a = st .args in
+    (st .pre .0, st .pre .1, omega (arith, saved-bytes (a .m) (a .s) (a .same) (a .k)))
 
 slice-aggregate-then-word-3 : tie.Need-slice-aggregate-then-word-3
 slice-aggregate-then-word-3 c = search needs
 
 then-word-requires-3 : tie.Need-then-word-requires-3
 then-word-requires-3 c κs =
-    omega (arith, saved-bytes (c .before .before .before .before .before .before .before .before .before .before .before .before .before .before .before .before .before .before .before .before .before .before .before .before .before .args .m) (c .before .before .before .before .before .before .before .before .before .before .before .before .before .before .before .before .before .before .before .before .before .before .before .before .before .args .s) (c .before .before .before .before .before .before .before .before .before .before .before .before .before .before .before .before .before .before .before .before .before .before .before .before .before .args .same) (c .before .before .before .before .before .before .before .before .before .before .before .before .before .before .before .before .before .before .before .before .before .before .before .before .before .args .k))
+    let st = c .before .before .before .before .before .before .before .before .before .before .before .before .before .before .before .before .before .before .before .before .before .before .before .before .before in
+    let a = st .args in
+    omega (arith, saved-bytes (a .m) (a .s) (a .same) (a .k))
 
 same-length : tie.Need-same-length
 same-length c = search needs
@@ -46,7 +58,18 @@ same-length c = search needs
 returns : tie.Need-returns
 unfolding savedWord
 returns c =
-    saved-made (c .before .before .before .before .before .before .before .before .before .before .before .before .before .before .before .before .before .before .before .before .before .before .before .before .before .before .before .before .args .out .now) (c .before .before .before .before .before .before .before .before .before .before .before .before .before .before .before .before .before .before .before .before .before .before .before .before .before .before .before .before .args .m) (c .before .before .before .before .before .before .before .before .before .before .before .before .before .before .before .before .before .before .before .before .before .before .before .before .before .before .before .before .args .s) (c .before .before .before .before .before .before .before .before .before .before .before .before .before .before .before .before .before .before .before .before .before .before .before .before .before .before .before .before .args .same) (c .before .before .before .before .before .before .before .before .before .before .before .before .before .before .before .before .before .before .before .before .before .before .before .before .before .before .before .before .args .k) (c .before .before .before .before .before .before .before .before .before .before .before .before .before .before .before .before .before .before .before .before .before .before .before .before .before .before .before .before .pre .2) (c .before .before .before .before .before .before .before .before .before .before .before .before .before .before .before .before .before .before .before .before .before .before .before .before .before .number .ensures) (c .before .before .before .before .before .before .before .before .before .before .before .before .before .before .before .before .before .before .before .before .then-word .ensures) (c .before .before .before .before .before .before .before .before .before .before .before .before .before .before .before .before .then-number .ensures) (c .before .before .before .before .before .before .before .before .before .before .before .then-word2 .ensures) (c .before .before .before .before .before .before .before .then-class .ensures) (c .before .before .then-word3 .ensures)
+    let at-then-word3 = c .before .before in
+    let at-then-class = at-then-word3 .before .before .before .before .before in
+    let at-then-word2 = at-then-class .before .before .before .before in
+    let at-then-number = at-then-word2 .before .before .before .before .before in
+    let at-then-word = at-then-number .before .before .before .before in
+    let at-number = at-then-word .before .before .before .before .before in
+    let st = at-number .before .before .before in
+    let a = st .args in
+    saved-made (a .out .now) (a .m) (a .s) (a .same) (a .k) (st .pre .2)
+    (at-number .number .ensures) (at-then-word .then-word .ensures)
+    (at-then-number .then-number .ensures) (at-then-word2 .then-word2 .ensures)
+    (at-then-class .then-class .ensures) (at-then-word3 .then-word3 .ensures)
 
 pub saved-line-spec : {M : Type 1} → statement M
 saved-line-spec =

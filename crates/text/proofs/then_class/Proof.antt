@@ -13,7 +13,10 @@ slice-aggregate-then-word c = search needs
 
 then-word-requires : tie.Need-then-word-requires
 then-word-requires c κs =
-    omega (arith, none-bytes (c .before .before .before .before .args .s) (c .before .before .before .before .args .k) (c .before .before .if1 .taken))
+    let at-if1 = c .before .before in
+    let st = at-if1 .before .before in
+    let a = st .args in
+    omega (arith, none-bytes (a .s) (a .k) (at-if1 .if1 .taken))
 
 same-length : tie.Need-same-length
 same-length c = search needs
@@ -21,14 +24,23 @@ same-length c = search needs
 returns : tie.Need-returns
 unfolding noneWord
 returns c =
-    none-made (c .before .before .before .before .before .before .before .args .s) (c .before .before .before .before .before .before .before .args .k) (c .before .before .before .before .before .before .before .args .out .now) (c .before .before .before .before .before .before .before .args .at) (c .before .before .before .before .before .if1 .taken) (c .before .before .then-word .ensures)
+    let at-then-word = c .before .before in
+    let at-if1 = at-then-word .before .before .before in
+    let st = at-if1 .before .before in
+    let a = st .args in
+    none-made (a .s) (a .k) (a .out .now) (a .at) (at-if1 .if1 .taken)
+    (at-then-word .then-word .ensures)
 
 slice-aggregate-then-word-2 : tie.Need-slice-aggregate-then-word-2
 slice-aggregate-then-word-2 c = search needs
 
 then-word-requires-2 : tie.Need-then-word-requires-2
 then-word-requires-2 c κs =
-    omega (arith, full-bytes (c .before .before .before .before .before .args .s) (c .before .before .before .before .before .args .k) (c .before .before .before .if1 .left) (c .before .before .if2 .taken))
+    let at-if2 = c .before .before in
+    let at-if1 = at-if2 .before in
+    let st = at-if1 .before .before in
+    let a = st .args in
+    omega (arith, full-bytes (a .s) (a .k) (at-if1 .if1 .left) (at-if2 .if2 .taken))
 
 same-length-2 : tie.Need-same-length-2
 same-length-2 c = search needs
@@ -36,21 +48,40 @@ same-length-2 c = search needs
 returns-2 : tie.Need-returns-2
 unfolding fullWord
 returns-2 c =
-    full-made (c .before .before .before .before .before .before .before .before .args .s) (c .before .before .before .before .before .before .before .before .args .k) (c .before .before .before .before .before .before .before .before .args .out .now) (c .before .before .before .before .before .before .before .before .args .at) (c .before .before .before .before .before .before .if1 .left) (c .before .before .before .before .before .if2 .taken) (c .before .before .then-word2 .ensures)
+    let at-then-word2 = c .before .before in
+    let at-if2 = at-then-word2 .before .before .before in
+    let at-if1 = at-if2 .before in
+    let st = at-if1 .before .before in
+    let a = st .args in
+    full-made (a .s) (a .k) (a .out .now) (a .at) (at-if1 .if1 .left) (at-if2 .if2 .taken)
+    (at-then-word2 .then-word2 .ensures)
 
 slice-aggregate-then-word-3 : tie.Need-slice-aggregate-then-word-3
 slice-aggregate-then-word-3 c = search needs
 
 then-word-requires-3 : tie.Need-then-word-requires-3
 then-word-requires-3 c κs =
-    omega (arith, part-bytes (c .before .before .before .before .before .args .s) (c .before .before .before .before .before .args .k) (c .before .before .before .if1 .left) (c .before .before .if2 .left) refl)
+    let at-if2 = c .before .before in
+    let at-if1 = at-if2 .before in
+    let st = at-if1 .before .before in
+    let a = st .args in
+    omega (arith, part-bytes (a .s) (a .k) (at-if1 .if1 .left) (at-if2 .if2 .left) refl)
 
 class-bin-requires : tie.Need-class-bin-requires
 class-bin-requires c κs = search needs
 
 then-number-requires : tie.Need-then-number-requires
 then-number-requires c κs =
-    omega (arith, part-bytes (c .before .before .before .before .before .before .before .before .before .before .args .s) (c .before .before .before .before .before .before .before .before .before .before .args .k) (c .before .before .before .before .before .before .before .before .if1 .left) (c .before .before .before .before .before .before .before .if2 .left) (c .before .class-bin .ensures))
+    let at-class-bin = c .before in
+    let at-if2 = at-class-bin .before .before .before .before .before .before in
+    let at-if1 = at-if2 .before in
+    let st = at-if1 .before .before in
+    let a = st .args in
+    omega (
+      arith,
+      part-bytes (a .s) (a .k) (at-if1 .if1 .left) (at-if2 .if2 .left)
+          (at-class-bin .class-bin .ensures),
+    )
 
 same-length-3 : tie.Need-same-length-3
 same-length-3 c = search needs
@@ -58,7 +89,16 @@ same-length-3 c = search needs
 returns-3 : tie.Need-returns-3
 unfolding ptWord
 returns-3 c =
-    part-made (c .before .before .before .before .before .before .before .before .before .before .before .before .before .args .s) (c .before .before .before .before .before .before .before .before .before .before .before .before .before .args .k) (c .before .before .before .before .before .before .before .before .before .before .before .before .before .args .out .now) (c .before .before .before .before .before .before .before .before .before .before .before .before .before .args .at) (c .before .before .before .before .before .before .before .before .before .before .before .if1 .left) (c .before .before .before .before .before .before .before .before .before .before .if2 .left) (c .before .before .before .before .class-bin .result) (c .before .before .before .before .class-bin .ensures) (c .before .before .before .before .before .before .before .before .before .before .before .before .before .pre .2) (c .before .before .before .before .before .before .before .then-word3 .ensures) (c .before .before .then-number .ensures)
+    let at-then-number = c .before .before in
+    let at-class-bin = at-then-number .before .before in
+    let at-then-word3 = at-class-bin .before .before .before in
+    let at-if2 = at-then-word3 .before .before .before in
+    let at-if1 = at-if2 .before in
+    let st = at-if1 .before .before in
+    let a = st .args in
+    part-made (a .s) (a .k) (a .out .now) (a .at) (at-if1 .if1 .left) (at-if2 .if2 .left)
+    (at-class-bin .class-bin .result) (at-class-bin .class-bin .ensures) (st .pre .2)
+    (at-then-word3 .then-word3 .ensures) (at-then-number .then-number .ensures)
 
 pub then-class-spec : {M : Type 1} → statement M
 then-class-spec =

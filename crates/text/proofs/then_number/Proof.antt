@@ -25,7 +25,10 @@ same-length c = search needs
 
 returns : tie.Need-returns
 returns c =
-    back (c .before .before .before .before .before .args .out .now) (c .before .before .before .before .before .args .at) (decimal (c .before .before .before .before .before .args .n)) (c .before .before .before .before .before .pre) (c .before .before .number .ensures)
+    let at-number = c .before .before in
+    let st = at-number .before .before .before in
+    let a = st .args in
+    back (a .out .now) (a .at) (decimal (a .n)) (st .pre) (at-number .number .ensures)
 
 pub then-number-spec : {M : Type 1} → statement M
 then-number-spec =

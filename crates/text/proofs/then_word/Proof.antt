@@ -25,7 +25,11 @@ same-length c = search needs
 
 returns : tie.Need-returns
 returns c =
-    back (c .before .before .before .before .before .before .args .out .now) (c .before .before .before .before .before .before .args .at) (c .before .before .before .before .before .before .args .w .now) (c .before .before .before .before .before .before .pre) (copied (c .before .before .before .before .before .before .args .w .now) (c .before .before .before .before .before .before .args .w .now) _ refl (c .before .before .copy .ensures .0) (c .before .before .copy .ensures .1))
+    let at-copy = c .before .before in
+    let st = at-copy .before .before .before .before in
+    let a = st .args in
+    back (a .out .now) (a .at) (a .w .now) (st .pre) (copied (a .w .now) (a .w .now) _ refl
+    (at-copy .copy .ensures .0) (at-copy .copy .ensures .1))
 
 pub then-word-spec : {M : Type 1} → statement M
 then-word-spec =

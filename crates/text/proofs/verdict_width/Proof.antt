@@ -17,34 +17,59 @@ width-requires-2 c κs = search needs
 
 add-w-2 : tie.Need-add-w-2
 add-w-2 c =
-    omega (arith, decimal-few (c .before .before .args .m) (c .before .before .fits .m .fits), decimal-few (c .before .before .args .p) (c .before .before .fits .p .fits))
+    let st = c .before .before in
+    let a = st .args in
+    omega (arith, decimal-few (a .m) (st .fits .m .fits), decimal-few (a .p) (st .fits .p .fits))
 
 add-result : tie.Need-add-result
 add-result c =
-    omega (arith, decimal-few (c .before .before .before .args .m) (c .before .before .before .fits .m .fits), decimal-few (c .before .before .before .args .p) (c .before .before .before .fits .p .fits))
+    let st = c .before .before .before in
+    let a = st .args in
+    omega (arith, decimal-few (a .m) (st .fits .m .fits), decimal-few (a .p) (st .fits .p .fits))
 
 returns : tie.Need-returns
 returns c =
-    omega (arith, same-bytes (c .before .before .before .args .m) (c .before .before .before .args .p) (c .before .before .before .args .d) (c .if1 .taken))
+    let st = c .before .before .before in
+    let a = st .args in
+    omega (arith, same-bytes (a .m) (a .p) (a .d) (c .if1 .taken))
 
 add-result-2 : tie.Need-add-result-2
 add-result-2 c =
-    omega (arith, decimal-few (c .before .before .before .args .m) (c .before .before .before .fits .m .fits), decimal-few (c .before .before .before .args .p) (c .before .before .before .fits .p .fits))
+    let st = c .before .before .before in
+    let a = st .args in
+    omega (arith, decimal-few (a .m) (st .fits .m .fits), decimal-few (a .p) (st .fits .p .fits))
 
 width-requires-3 : tie.Need-width-requires-3
 width-requires-3 c κs = search needs
 
 add-result-3 : tie.Need-add-result-3
 add-result-3 c =
-    omega (arith, decimal-few (c .before .before .before .before .args .m) (c .before .before .before .before .fits .m .fits), decimal-few (c .before .before .before .before .args .p) (c .before .before .before .before .fits .p .fits), decimal-few (c .before .before .before .before .args .d) (c .before .before .before .before .fits .d .fits))
+    let st = c .before .before .before .before in
+    let a = st .args in
+    omega (
+      arith,
+      decimal-few (a .m) (st .fits .m .fits),
+      decimal-few (a .p) (st .fits .p .fits),
+      decimal-few (a .d) (st .fits .d .fits),
+    )
 
 add-result-4 : tie.Need-add-result-4
 add-result-4 c =
-    omega (arith, decimal-few (c .before .before .before .before .args .m) (c .before .before .before .before .fits .m .fits), decimal-few (c .before .before .before .before .args .p) (c .before .before .before .before .fits .p .fits), decimal-few (c .before .before .before .before .args .d) (c .before .before .before .before .fits .d .fits))
+    let st = c .before .before .before .before in
+    let a = st .args in
+    omega (
+      arith,
+      decimal-few (a .m) (st .fits .m .fits),
+      decimal-few (a .p) (st .fits .p .fits),
+      decimal-few (a .d) (st .fits .d .fits),
+    )
 
 returns-2 : tie.Need-returns-2
 returns-2 c =
-    omega (arith, changed-bytes (c .before .before .before .before .args .m) (c .before .before .before .before .args .p) (c .before .before .before .before .args .d) (c .before .if1 .left))
+    let at-if1 = c .before in
+    let st = at-if1 .before .before .before in
+    let a = st .args in
+    omega (arith, changed-bytes (a .m) (a .p) (a .d) (at-if1 .if1 .left))
 
 pub verdict-width-spec : {M : Type 1} → statement M
 verdict-width-spec =

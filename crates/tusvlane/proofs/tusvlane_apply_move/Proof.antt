@@ -26,13 +26,19 @@ same-length : tie.Need-same-length
 same-length c = search needs
 
 returns : tie.Need-returns
-returns c = call-as codeOf (c .before .before .before .before .apply-move .ensures) (ap moveSays (c .enum-told .given .1)) refl
+returns c =
+    let at-apply-move = c .before .before .before .before in
+    call-as codeOf (at-apply-move .apply-move .ensures) (ap moveSays (c .enum-told .given .1)) refl
 
 same-length-2 : tie.Need-same-length-2
 same-length-2 c = search needs
 
 returns-2 : tie.Need-returns-2
-returns-2 c = call-as codeOf (c .before .before .before .before .before .before .apply-move .ensures) (ap moveSays (c .before .before .r .given .1)) (c .number .ensures)
+returns-2 c =
+    let at-r = c .before .before in
+    let at-apply-move = at-r .before .before .before .before in
+    call-as codeOf (at-apply-move .apply-move .ensures) (ap moveSays (at-r .r .given .1))
+    (c .number .ensures)
 
 pub tusvlane-apply-move-spec : {M : Type 1} → statement M
 tusvlane-apply-move-spec =

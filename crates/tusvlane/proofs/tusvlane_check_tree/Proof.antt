@@ -23,11 +23,15 @@ cast-result : tie.Need-cast-result
 cast-result c = search needs
 
 returns : tie.Need-returns
-returns c = call-as codeOf (c .before .before .check-tree .ensures) (ap checkSays (c .enum-told .given .1)) refl
+returns c =
+    call-as codeOf (c .before .before .check-tree .ensures) (ap checkSays (c .enum-told .given .1))
+    refl
 
 returns-2 : tie.Need-returns-2
 returns-2 c =
-    call-as codeOf (c .before .before .before .before .check-tree .ensures) (ap checkSays (c .before .before .r .given .1))
+    let at-r = c .before .before in
+    let at-check-tree = at-r .before .before in
+    call-as codeOf (at-check-tree .check-tree .ensures) (ap checkSays (at-r .r .given .1))
     (c .number .ensures)
 
 pub tusvlane-check-tree-spec : {M : Type 1} → statement M

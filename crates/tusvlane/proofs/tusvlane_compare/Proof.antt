@@ -25,12 +25,16 @@ enum-known-d c = search needs
 
 returns : tie.Need-returns
 returns c =
-    call-as comparisonOf (c .before .before .before .before .compare .ensures) (ap compareSays (c .before .before .r .given .1))
+    let at-r = c .before .before in
+    let at-compare = at-r .before .before in
+    call-as comparisonOf (at-compare .compare .ensures) (ap compareSays (at-r .r .given .1))
     (ap (λ (x : ℕ). record { refusal = x; distance = 0; missing = 0 }) (c .number .ensures))
 
 returns-2 : tie.Need-returns-2
 returns-2 c =
-    call-as comparisonOf (c .before .before .before .compare .ensures) (ap compareSays (c .before .d .given .1)) refl
+    let at-d = c .before in
+    let at-compare = at-d .before .before in
+    call-as comparisonOf (at-compare .compare .ensures) (ap compareSays (at-d .d .given .1)) refl
 
 pub tusvlane-compare-spec : {M : Type 1} → statement M
 tusvlane-compare-spec =

@@ -23,13 +23,21 @@ same-length : tie.Need-same-length
 same-length c = search needs
 
 returns : tie.Need-returns
-returns c = call-as answerOf (c .before .before .before .before .before .before .induced-splits .ensures) (ap inducedSays (c .before .before .r .given .1)) (c .refused .ensures)
+returns c =
+    let at-r = c .before .before in
+    let at-induced-splits = at-r .before .before .before .before in
+    call-as answerOf (at-induced-splits .induced-splits .ensures)
+    (ap inducedSays (at-r .r .given .1)) (c .refused .ensures)
 
 same-length-2 : tie.Need-same-length-2
 same-length-2 c = search needs
 
 returns-2 : tie.Need-returns-2
-returns-2 c = call-as answerOf (c .before .before .before .before .before .induced-splits .ensures) (ap inducedSays (c .before .k .given .1)) refl
+returns-2 c =
+    let at-k = c .before in
+    let at-induced-splits = at-k .before .before .before .before in
+    call-as answerOf (at-induced-splits .induced-splits .ensures)
+    (ap inducedSays (at-k .k .given .1)) refl
 
 pub tusvlane-induced-splits-spec : {M : Type 1} → statement M
 tusvlane-induced-splits-spec =

@@ -23,13 +23,20 @@ same-length : tie.Need-same-length
 same-length c = search needs
 
 returns : tie.Need-returns
-returns c = call-as answerOf (c .before .before .before .before .before .before .judge-move .ensures) (ap judgeSays (c .before .before .r .given .1)) (c .refused .ensures)
+returns c =
+    let at-r = c .before .before in
+    let at-judge-move = at-r .before .before .before .before in
+    call-as answerOf (at-judge-move .judge-move .ensures) (ap judgeSays (at-r .r .given .1))
+    (c .refused .ensures)
 
 same-length-2 : tie.Need-same-length-2
 same-length-2 c = search needs
 
 returns-2 : tie.Need-returns-2
-returns-2 c = call-as answerOf (c .before .before .before .before .before .judge-move .ensures) (ap judgeSays (c .before .k .given .1)) refl
+returns-2 c =
+    let at-k = c .before in
+    let at-judge-move = at-k .before .before .before .before in
+    call-as answerOf (at-judge-move .judge-move .ensures) (ap judgeSays (at-k .k .given .1)) refl
 
 pub tusvlane-judge-move-spec : {M : Type 1} → statement M
 tusvlane-judge-move-spec =

@@ -21,12 +21,16 @@ enum-known-d c = search needs
 
 returns : tie.Need-returns
 returns c =
-    call-as answerOf (c .before .before .before .before .judge-one .ensures) (ap verdictSays (c .before .before .r .given .1))
+    let at-r = c .before .before in
+    let at-judge-one = at-r .before .before in
+    call-as answerOf (at-judge-one .judge-one .ensures) (ap verdictSays (at-r .r .given .1))
     (c .refused .ensures)
 
 returns-2 : tie.Need-returns-2
 returns-2 c =
-    call-as answerOf (c .before .before .before .judge-one .ensures) (ap verdictSays (c .before .d .given .1)) refl
+    let at-d = c .before in
+    let at-judge-one = at-d .before .before in
+    call-as answerOf (at-judge-one .judge-one .ensures) (ap verdictSays (at-d .d .given .1)) refl
 
 pub tusvlane-judge-one-spec : {M : Type 1} → statement M
 tusvlane-judge-one-spec =

@@ -26,7 +26,11 @@ same-length-2 : tie.Need-same-length-2
 same-length-2 c = search needs
 
 returns : tie.Need-returns
-returns c = call-as answerOf (c .before .before .before .before .before .before .before .before .list-move .ensures) (ap linesSays (c .before .before .r .given .1)) (c .refused .ensures)
+returns c =
+    let at-r = c .before .before in
+    let at-list-move = at-r .before .before .before .before .before .before in
+    call-as answerOf (at-list-move .list-move .ensures) (ap linesSays (at-r .r .given .1))
+    (c .refused .ensures)
 
 same-length-3 : tie.Need-same-length-3
 same-length-3 c = search needs
@@ -35,7 +39,10 @@ same-length-4 : tie.Need-same-length-4
 same-length-4 c = search needs
 
 returns-2 : tie.Need-returns-2
-returns-2 c = call-as answerOf (c .before .before .before .before .before .before .before .list-move .ensures) (ap linesSays (c .before .e .given .1)) refl
+returns-2 c =
+    let at-e = c .before in
+    let at-list-move = at-e .before .before .before .before .before .before in
+    call-as answerOf (at-list-move .list-move .ensures) (ap linesSays (at-e .e .given .1)) refl
 
 pub tusvlane-list-move-spec : {M : Type 1} → statement M
 tusvlane-list-move-spec =

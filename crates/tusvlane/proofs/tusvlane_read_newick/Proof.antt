@@ -36,19 +36,30 @@ same-length : tie.Need-same-length
 same-length c = search needs
 
 returns : tie.Need-returns
-returns c = callBy-as placedOf (c .before .before .before .before .read-newick .ensures) (ap readingSays (c .enum-told .given .1)) refl
+returns c =
+    let at-read-newick = c .before .before .before .before in
+    callBy-as placedOf (at-read-newick .read-newick .ensures)
+    (ap readingSays (c .enum-told .given .1)) refl
 
 same-length-2 : tie.Need-same-length-2
 same-length-2 c = search needs
 
 returns-2 : tie.Need-returns-2
-returns-2 c = callBy-as placedOf (c .before .before .before .before .before .before .read-newick .ensures) (ap readingSays (c .before .before .r .given .1)) (placed-as 0 (c .number .ensures))
+returns-2 c =
+    let at-r = c .before .before in
+    let at-read-newick = at-r .before .before .before .before in
+    callBy-as placedOf (at-read-newick .read-newick .ensures) (ap readingSays (at-r .r .given .1))
+    (placed-as 0 (c .number .ensures))
 
 same-length-3 : tie.Need-same-length-3
 same-length-3 c = search needs
 
 returns-3 : tie.Need-returns-3
-returns-3 c = callBy-as placedOf (c .before .before .before .before .before .before .read-newick .ensures) (ap readingSays (c .before .before .r2 .given .1)) (placed-as _ (c .number2 .ensures))
+returns-3 c =
+    let at-r2 = c .before .before in
+    let at-read-newick = at-r2 .before .before .before .before in
+    callBy-as placedOf (at-read-newick .read-newick .ensures) (ap readingSays (at-r2 .r2 .given .1))
+    (placed-as _ (c .number2 .ensures))
 
 pub tusvlane-read-newick-spec : {M : Type 1} → statement M
 tusvlane-read-newick-spec =

@@ -43,7 +43,9 @@ same-length-3 c = search needs
 
 returns : tie.Need-returns
 returns c =
-    call-as stepAnswerOf (c .before .before .before .before .before .before .before .before .before .step .ensures) (ap steppedSays (c .before .state .given .1))
+    let at-state = c .before in
+    let at-step = at-state .before .before .before .before .before .before .before .before in
+    call-as stepAnswerOf (at-step .step .ensures) (ap steppedSays (at-state .state .given .1))
     refl
 
 same-length-4 : tie.Need-same-length-4
@@ -57,7 +59,10 @@ same-length-6 c = search needs
 
 returns-2 : tie.Need-returns-2
 returns-2 c =
-    call-as stepAnswerOf (c .before .before .before .before .before .before .before .before .before .step .ensures) (ap steppedSays (c .before .enum-told .given .1))
+    let at-enum-told = c .before in
+    let at-step = at-enum-told .before .before .before .before .before .before .before .before in
+    call-as stepAnswerOf (at-step .step .ensures)
+    (ap steppedSays (at-enum-told .enum-told .given .1))
     (ended-is (c .start .ensures))
 
 same-length-7 : tie.Need-same-length-7
@@ -71,8 +76,11 @@ same-length-9 c = search needs
 
 returns-3 : tie.Need-returns-3
 returns-3 c =
-    call-as stepAnswerOf (c .before .before .before .before .before .before .before .before .before .before .before .step .ensures) (ap steppedSays (c .before .before .before .why .given .1))
-    (stopped-is (c .before .before .before .why .given .0 .0) _ (c .before .number .ensures) (c .start2 .ensures))
+    let at-number = c .before in
+    let at-why = at-number .before .before in
+    let at-step = at-why .before .before .before .before .before .before .before .before in
+    call-as stepAnswerOf (at-step .step .ensures) (ap steppedSays (at-why .why .given .1))
+    (stopped-is (at-why .why .given .0 .0) _ (at-number .number .ensures) (c .start2 .ensures))
 
 pub tusvlane-step-spec : {M : Type 1} → statement M
 tusvlane-step-spec =

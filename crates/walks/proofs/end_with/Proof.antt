@@ -22,14 +22,16 @@ returns c =
     let at-lo = at-hi .before in
     let st = at-lo .before .before .before in
     let led = sym (c .before .leads .ensures) ∙ c .if1 .taken in
-    at-lo .lo .ensures ∙ end-is (st .pre .0 .good) (st .pre .1) (st .pre .2) (st .pre .3) (at-hi .hi .ensures) led
+    at-lo .lo .ensures ∙ end-is (st .pre .0 .good) (st .pre .1) (st .pre .2) (st .pre .3)
+    (at-hi .hi .ensures) led
 
 returns-2 : tie.Need-returns-2
 returns-2 c =
     let at-hi = c .before .before in
     let st = at-hi .before .before .before .before in
     let led = sym (c .before .leads .ensures) ∙ c .if1 .left in
-    at-hi .hi .ensures ∙ end-is (st .pre .0 .good) (st .pre .1) (st .pre .2) (st .pre .3) (at-hi .hi .ensures) led
+    at-hi .hi .ensures ∙ end-is (st .pre .0 .good) (st .pre .1) (st .pre .2) (st .pre .3)
+    (at-hi .hi .ensures) led
 
 pub end-with-spec : {M : Type 1} → statement M
 end-with-spec = tie.close (tie.spec lo-requires hi-requires leads-requires returns returns-2)

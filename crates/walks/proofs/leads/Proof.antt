@@ -23,14 +23,16 @@ returns-2 c =
     let at-beyond = c .before .before in
     let at-if1 = at-beyond .before in
     let st = at-if1 .before .before .before in
-    leads-none (st .pre .0) (st .pre .1) (st .pre .2) (at-if1 .if1 .left) (at-beyond .beyond .ensures) (c .if2 .taken)
+    leads-none (st .pre .0) (st .pre .1) (st .pre .2) (at-if1 .if1 .left)
+    (at-beyond .beyond .ensures) (c .if2 .taken)
 
 returns-3 : tie.Need-returns-3
 returns-3 c =
     let at-beyond = c .before .before in
     let at-if1 = at-beyond .before in
     let st = at-if1 .before .before .before in
-    leads-some (st .pre .0) (st .pre .1) (st .pre .2) (at-if1 .if1 .left) (at-beyond .beyond .ensures) (c .if2 .left)
+    leads-some (st .pre .0) (st .pre .1) (st .pre .2) (at-if1 .if1 .left)
+    (at-beyond .beyond .ensures) (c .if2 .left)
 
 pub leads-spec : {M : Type 1} → statement M
 leads-spec =

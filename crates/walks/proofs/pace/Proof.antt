@@ -22,7 +22,8 @@ beyond-requires : tie.Need-beyond-requires
 beyond-requires c κs =
     let at-others = c .before .before in
     let st = at-others .before .before .before .before in
-    let K = two (at-end (st .pre .0)) (st .pre .3 .rows) (st .pre .1) (at-others .others .ensures) in
+    let K = two (at-end (st .pre .0)) (st .pre .3 .rows) (st .pre .1)
+    (at-others .others .ensures) in
     (pair-g (st .pre .0) K, st .pre .3 .sides)
 
 returns : tie.Need-returns
@@ -30,14 +31,16 @@ returns c =
     let at-leads = c .before .before in
     let at-others = at-leads .before in
     let st = at-others .before .before .before .before in
-    let K = two (at-end (st .pre .0)) (st .pre .3 .rows) (st .pre .1) (at-others .others .ensures) in
+    let K = two (at-end (st .pre .0)) (st .pre .3 .rows) (st .pre .1)
+    (at-others .others .ensures) in
     paced-first K (sym (at-leads .leads .ensures) ∙ c .before .if1 .taken) (c .beyond .ensures)
 
 beyond-requires-2 : tie.Need-beyond-requires-2
 beyond-requires-2 c κs =
     let at-others = c .before .before in
     let st = at-others .before .before .before .before in
-    let K = two (at-end (st .pre .0)) (st .pre .3 .rows) (st .pre .1) (at-others .others .ensures) in
+    let K = two (at-end (st .pre .0)) (st .pre .3 .rows) (st .pre .1)
+    (at-others .others .ensures) in
     (pair-f (st .pre .0) K, st .pre .3 .sides)
 
 returns-2 : tie.Need-returns-2
@@ -45,7 +48,8 @@ returns-2 c =
     let at-leads = c .before .before in
     let at-others = at-leads .before in
     let st = at-others .before .before .before .before in
-    let K = two (at-end (st .pre .0)) (st .pre .3 .rows) (st .pre .1) (at-others .others .ensures) in
+    let K = two (at-end (st .pre .0)) (st .pre .3 .rows) (st .pre .1)
+    (at-others .others .ensures) in
     paced-second K (sym (at-leads .leads .ensures) ∙ c .before .if1 .left) (c .beyond2 .ensures)
 
 pub pace-spec : {M : Type 1} → statement M

@@ -35,7 +35,8 @@ beyond-requires c κs =
     let at-if1 = c .before in
     let st = at-if1 .before .before .before .before in
     let o = c .others in
-    let K = two (at-end (asked-at (st .pre .0))) (st .pre .0 .looked .rows) (at-if1 .if1 .left) (o .ensures) in
+    let K = two (at-end (asked-at (st .pre .0))) (st .pre .0 .looked .rows) (at-if1 .if1 .left)
+    (o .ensures) in
     (pair-f (asked-at (st .pre .0)) K, st .pre .0 .looked .sides)
 
 element-write-out-2 : tie.Need-element-write-out-2
@@ -47,7 +48,8 @@ beyond-requires-2 c κs =
     let at-if1 = at-others .before in
     let st = at-if1 .before .before .before .before in
     let o = at-others .others in
-    let K = two (at-end (asked-at (st .pre .0))) (st .pre .0 .looked .rows) (at-if1 .if1 .left) (o .ensures) in
+    let K = two (at-end (asked-at (st .pre .0))) (st .pre .0 .looked .rows) (at-if1 .if1 .left)
+    (o .ensures) in
     (pair-g (asked-at (st .pre .0)) K, st .pre .0 .looked .sides)
 
 element-write-out-3 : tie.Need-element-write-out-3
@@ -61,10 +63,13 @@ returns-2 c =
     let st = at-if1 .before .before .before .before in
     let a = st .args in
     let o = at-others .others in
-    let K = two (at-end (asked-at (st .pre .0))) (st .pre .0 .looked .rows) (at-if1 .if1 .left) (o .ensures) in
+    let K = two (at-end (asked-at (st .pre .0))) (st .pre .0 .looked .rows) (at-if1 .if1 .left)
+    (o .ensures) in
     stays-all (st .pre .0) (st .pre .1)
-    (stays-two (a .n) (a .t .now) (a .a) (a .end .node) (a .out .now) (st .pre .0 .for-groups) (o .result .f) (o .result .g)
-    (at-beyond .beyond .result) (c .beyond2 .result) (at-if1 .if1 .left) K (at-beyond .beyond .ensures) (c .beyond2 .ensures))
+    (stays-two (a .n) (a .t .now) (a .a) (a .end .node) (a .out .now) (st .pre .0 .for-groups)
+    (o .result .f) (o .result .g)
+    (at-beyond .beyond .result) (c .beyond2 .result) (at-if1 .if1 .left) K
+    (at-beyond .beyond .ensures) (c .beyond2 .ensures))
 
 pub stays-spec : {M : Type 1} → statement M
 stays-spec =

@@ -36,7 +36,13 @@ element-write-out c =
     let at-loop = c .before in
     let st = at-loop .before .before .before .before in
     let w = at-loop .loop .inv in
-    omega (arith, walked-lt w, st .pre .0 .looked .good .few, st .pre .0 .for-groups, w .listed .len)
+    omega (
+      arith,
+      walked-lt w,
+      st .pre .0 .looked .good .few,
+      st .pre .0 .for-groups,
+      w .listed .len,
+    )
 
 add-c : tie.Need-add-c Inv-loop μ-loop
 add-c c =
@@ -49,8 +55,10 @@ beyond-requires c κs =
     let at-loop = at-pace .before in
     let st = at-loop .before .before .before .before in
     let a = st .args in
-    let on = on-at (at-loop .loop .inv) (at-pace .pace .ensures) in
-    (subst (λ (x : ℕ). At (a .n) (a .t .now) x (at-loop .loop .w)) (c .if1 .taken) on, st .pre .0 .looked .sides)
+    let on = on-at (at-loop .loop .inv) (at-pace .pace .ensures) in (
+      subst (λ (x : ℕ). At (a .n) (a .t .now) x (at-loop .loop .w)) (c .if1 .taken) on,
+      st .pre .0 .looked .sides,
+    )
 
 mul-out-2 : tie.Need-mul-out-2 Inv-loop μ-loop
 mul-out-2 c = search needs
@@ -60,7 +68,13 @@ element-write-out-2 c =
     let at-loop = c .before .before .before in
     let st = at-loop .before .before .before .before in
     let w = at-loop .loop .inv in
-    omega (arith, walked-lt w, st .pre .0 .looked .good .few, st .pre .0 .for-groups, w .listed .len)
+    omega (
+      arith,
+      walked-lt w,
+      st .pre .0 .looked .good .few,
+      st .pre .0 .for-groups,
+      w .listed .len,
+    )
 
 add-result : tie.Need-add-result Inv-loop μ-loop
 add-result c =
@@ -96,7 +110,8 @@ loop-again c =
     let at-pace = at-if1 .before in
     let at-loop = at-pace .before in
     let st = at-loop .before .before .before .before in
-    walked-next (at-loop .loop .inv) (at-pace .pace .ensures) (c .far .result) (st .pre .0 .for-groups)
+    walked-next (at-loop .loop .inv) (at-pace .pace .ensures) (c .far .result)
+    (st .pre .0 .for-groups)
     (at-if1 .if1 .left) (c .far .ensures)
 
 pub way-spec : {M : Type 1} → statement M

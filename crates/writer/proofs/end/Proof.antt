@@ -10,14 +10,24 @@ slice-aggregate-end-line c = search needs
 
 end-line-requires : tie.Need-end-line-requires
 end-line-requires c κs =
-    omega (arith, end-bytes (c .before .args .moves), decimal-few (c .before .args .moves) (c .before .fits .moves .fits))
+    let st = c .before in
+    let a = st .args in
+    omega (arith, end-bytes (a .moves), decimal-few (a .moves) (st .fits .moves .fits))
 
 slice-aggregate-put : tie.Need-slice-aggregate-put
 slice-aggregate-put c = search needs
 
 put-requires : tie.Need-put-requires
 put-requires c κs =
-    omega (arith, end-bytes (c .before .before .before .before .args .moves), decimal-few (c .before .before .before .before .args .moves) (c .before .before .before .before .fits .moves .fits), c .before .before .end-line .ensures .0)
+    let at-end-line = c .before .before in
+    let st = at-end-line .before .before in
+    let a = st .args in
+    omega (
+      arith,
+      end-bytes (a .moves),
+      decimal-few (a .moves) (st .fits .moves .fits),
+      at-end-line .end-line .ensures .0,
+    )
 
 returns : tie.Need-returns
 returns c = search needs

@@ -57,7 +57,8 @@ put-requires c κs =
     let a = st .args in
     let at = at-loop .loop in
     let m = lending (at .tree) (at .parts) (at .out) in
-    let go = step-forward (a .input .now) (at .s) m (at-state .state .given .1) (at-step .step .ensures) in
+    let go = step-forward (a .input .now) (at .s) m (at-state .state .given .1)
+    (at-step .step .ensures) in
     omega (arith, go .2)
 
 returns : tie.Need-returns Inv-loop μ-loop
@@ -72,7 +73,8 @@ loop-less c =
     let a = st .args in
     let at = at-loop .loop in
     let m = lending (at .tree) (at .parts) (at .out) in
-    let go = step-forward (a .input .now) (at .s) m (at-state .state .given .1) (at-step .step .ensures) in
+    let go = step-forward (a .input .now) (at .s) m (at-state .state .given .1)
+    (at-step .step .ensures) in
     omega (arith, go .0, go .1)
 
 loop-again : tie.Need-loop-again Inv-loop μ-loop
@@ -80,7 +82,8 @@ loop-again c =
     let at-state = c .before .before .before .before in
     let at-step = at-state .before .before .before .before .before in
     let at-loop = at-step .before .before .before .before in
-    let going = going-next (at-loop .loop .inv .0) (at-state .state .given .1) (at-step .step .ensures) in
+    let going = going-next (at-loop .loop .inv .0) (at-state .state .given .1)
+    (at-step .step .ensures) in
     (going, search needs, search needs, search needs)
 
 enum-told : tie.Need-enum-told Inv-loop μ-loop

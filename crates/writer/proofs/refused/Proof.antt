@@ -16,14 +16,36 @@ slice-aggregate-refused-line c = search needs
 
 refused-line-requires : tie.Need-refused-line-requires
 refused-line-requires c κs =
-    omega (arith, refused-bytes (c .before .number .result) (c .before .before .args .place), decimal-few (c .before .number .result) (search (needs, arith)), decimal-few (c .before .before .args .place) (c .before .before .fits .place .fits))
+    let at-number = c .before in
+    let st = at-number .before in
+    let a = st .args in
+    omega (
+      arith,
+      refused-bytes (at-number .number .result) (a .place),
+      decimal-few
+          (at-number .number .result) (search (needs, arith)),
+      decimal-few (a .place)
+          (st .fits .place .fits),
+    )
 
 slice-aggregate-put : tie.Need-slice-aggregate-put
 slice-aggregate-put c = search needs
 
 put-requires : tie.Need-put-requires
 put-requires c κs =
-    omega (arith, refused-bytes (c .before .before .before .before .number .result) (c .before .before .before .before .before .args .place), decimal-few (c .before .before .before .before .number .result) (search (needs, arith)), decimal-few (c .before .before .before .before .before .args .place) (c .before .before .before .before .before .fits .place .fits), c .before .before .refused-line .ensures .0)
+    let at-refused-line = c .before .before in
+    let at-number = at-refused-line .before .before in
+    let st = at-number .before in
+    let a = st .args in
+    omega (
+      arith,
+      refused-bytes (at-number .number .result) (a .place),
+      decimal-few
+          (at-number .number .result) (search (needs, arith)),
+      decimal-few (a .place)
+          (st .fits .place .fits),
+      at-refused-line .refused-line .ensures .0,
+    )
 
 returns : tie.Need-returns
 returns c = search needs
