@@ -24,7 +24,8 @@ pass-both ((b else r) ∷ cs) ds p q = (p .0, pass-both cs ds (p .1) q)
 
 module _ {A : Type 0} where
   -- Checks in two parts: what the first say, then the second.
-  pub judged-then : (cs ds : List Check) (a : A) → judged (cs ++ ds) a ≡ thenSaid (judged cs (tt {0})) (λ u. judged ds a)
+  pub judged-then : (cs ds : List Check) (a : A)
+      → judged (cs ++ ds) a ≡ thenSaid (judged cs (tt {0})) (λ u. judged ds a)
   unfolding judged
   judged-then [] ds a = refl
   judged-then ((true else k) ∷ cs) ds a = judged-then cs ds a
@@ -42,12 +43,14 @@ module _ {A : Type 0} where
   judged-all ((true else k) ∷ cs) a p = judged-all cs a (p .1)
   judged-all ((false else k) ∷ cs) a p = absurd (false≢true (p .0))
 
-  pub judged-next : (b : Bool) (k : Refusal) (cs : List Check) (a : A) → b ≡ true → judged ((b else k) ∷ cs) a ≡ judged cs a
+  pub judged-next : (b : Bool) (k : Refusal) (cs : List Check) (a : A) → b ≡ true
+      → judged ((b else k) ∷ cs) a ≡ judged cs a
   unfolding judged
   judged-next true k cs a p = refl
   judged-next false k cs a p = absurd (false≢true p)
 
-  pub judged-fail : (b : Bool) (k : Refusal) (cs : List Check) (a : A) → b ≡ false → judged ((b else k) ∷ cs) a ≡ refuses k
+  pub judged-fail : (b : Bool) (k : Refusal) (cs : List Check) (a : A) → b ≡ false
+      → judged ((b else k) ∷ cs) a ≡ refuses k
   unfolding judged
   judged-fail true k cs a p = absurd (true≢false p)
   judged-fail false k cs a p = refl
@@ -60,15 +63,19 @@ module _ {A : Type 0} where
 
   -- what is given is the answer
   pub gives-same : (cs : List Check) (a x : A) → judged cs a ≡ gives x → a ≡ x
-  gives-same cs a x h = let w : gives a ≡ gives x = sym (judged-all cs a (gives-pass cs a x h)) ∙ h in cc
+  gives-same cs a x h = let w : gives a ≡ gives x = sym (judged-all cs a (gives-pass cs a x h))
+      ∙ h in cc
 
 -- a refusal stands, whatever checks and answer come after
-pub refuses-more : {A B : Type 0} (cs ds : List Check) (a : A) (b : B) (k : Refusal) → judged cs a ≡ refuses k → judged (cs ++ ds) b ≡ refuses k
+pub refuses-more : {A B : Type 0} (cs ds : List Check) (a : A) (b : B) (k : Refusal)
+    → judged cs a ≡ refuses k → judged (cs ++ ds) b ≡ refuses k
 unfolding judged
 refuses-more [] ds a b k h = absurd (let z : _≡_ {A = ℕ} 0 1 = cc in omega arith)
 refuses-more ((true else j) ∷ cs) ds a b k h = refuses-more cs ds a b k h
 refuses-more {A} ((false else j) ∷ cs) ds a b k h = let e : j ≡ k = cc in ap refuses e
 
 -- and whatever the answer would have been
-pub refuses-any : {A B : Type 0} (cs : List Check) (a : A) (b : B) (k : Refusal) → judged cs a ≡ refuses k → judged cs b ≡ refuses k
-refuses-any cs a b k h = sym (ap (λ (ds : List Check). judged ds b) (append-nil cs)) ∙ refuses-more cs [] a b k h
+pub refuses-any : {A B : Type 0} (cs : List Check) (a : A) (b : B) (k : Refusal)
+    → judged cs a ≡ refuses k → judged cs b ≡ refuses k
+refuses-any cs a b k h = sym (ap (λ (ds : List Check). judged ds b) (append-nil cs))
+    ∙ refuses-more cs [] a b k h

@@ -8,19 +8,25 @@ use mathlib.Core.List.{List, [], _∷_}
 use native.Mathlib.Omega.{arith}
 use lib.ListN.{getD}
 use Rattle.calls.specs.declared.Refusal.{Refusal}
-use Rattle.calls.specs.declared.Refusal.the-variants.{Count, Length, Ends, Degree, Unreached, Partition, Kind}
-use Rattle.calls.specs.declared.Refusal.the-variants.{Row, Misfit, Idle, Room, Field, Long, Text, Side}
-use Rattle.calls.specs.declared.Refusal.the-variants.{Unseen, Sites, Data, State, Lengths, Rate}
+use Rattle.calls.specs.declared.Refusal.the-variants.{Count, Length, Ends, Degree, Unreached}
+use Rattle.calls.specs.declared.Refusal.the-variants.{Partition, Kind}
+use Rattle.calls.specs.declared.Refusal.the-variants.{Row, Misfit, Idle, Room, Field, Long}
+use Rattle.calls.specs.declared.Refusal.the-variants.{Text, Side}
+use Rattle.calls.specs.declared.Refusal.the-variants.{Unseen, Sites, Data, State, Lengths}
+use Rattle.calls.specs.declared.Refusal.the-variants.{Rate}
 use Rattle.calls.specs.Refusals.{numberOf}
-use Rattle.calls.specs.Calls.{on, Said, gives, refuses, refusesAt, Check, _else_, judged, placedAt, thenSaid}
-use Rattle.calls.specs.Calls.{tells, codeOf, Given, OnlyBy, Numbered, answered, refused, refused-at}
+use Rattle.calls.specs.Calls.{on, Said, gives, refuses, refusesAt, Check, _else_, judged}
+use Rattle.calls.specs.Calls.{placedAt, thenSaid}
+use Rattle.calls.specs.Calls.{tells, codeOf, Given, OnlyBy, Numbered, answered, refused}
+use Rattle.calls.specs.Calls.{refused-at}
 
 -- ---- one number, one refusal
 
 -- The refusals in order, from 0 on, where none stands.
 abbrev inOrder : List Refusal
 inOrder =
-    Count ∷ Count ∷ Length ∷ Ends ∷ Degree ∷ Unreached ∷ Partition ∷ Kind ∷ Row ∷ Misfit ∷ Idle ∷ Room ∷ Field
+    Count ∷ Count ∷ Length ∷ Ends ∷ Degree ∷ Unreached ∷ Partition ∷ Kind ∷ Row ∷ Misfit ∷ Idle
+    ∷ Room ∷ Field
     ∷ Long ∷ Text ∷ Side ∷ Unseen ∷ Sites ∷ Data ∷ State ∷ Lengths ∷ Rate ∷ []
 
 back : (r : Refusal) → getD inOrder (numberOf r) Count ≡ r
@@ -88,15 +94,18 @@ module _ {A : Type 0} where
   zero-iff (refuses r) k (answered b e z) = absurd (let w : _≡_ {A = ℕ} 0 1 = cc in omega arith)
   zero-iff (refusesAt r p) k (answered b e z) = absurd (let w : _≡_ {A = ℕ} 0 1 = cc in omega arith)
   zero-iff (gives a) k (refused r e z) = absurd (let w : _≡_ {A = ℕ} 0 1 = cc in omega arith)
-  zero-iff (refuses j) k (refused r e z) = (λ h. absurd (omega (arith, number-some r)), λ g. absurd g)
+  zero-iff (refuses j) k (refused r e z) =
+      (λ h. absurd (omega (arith, number-some r)), λ g. absurd g)
   zero-iff (refusesAt j p) k (refused r e z) = absurd (let w : _≡_ {A = ℕ} 0 1 = cc in omega arith)
   zero-iff (gives a) k (refused-at r p e z) = absurd (let w : _≡_ {A = ℕ} 0 1 = cc in omega arith)
   zero-iff (refuses j) k (refused-at r p e z) = absurd (let w : _≡_ {A = ℕ} 0 1 = cc in omega arith)
-  zero-iff (refusesAt j q) k (refused-at r p e z) = (λ h. absurd (omega (arith, number-some r)), λ g. absurd g)
+  zero-iff (refusesAt j q) k (refused-at r p e z) =
+      (λ h. absurd (omega (arith, number-some r)), λ g. absurd g)
 
   -- Where a call is refused only with some numbers, a number that stands for
   -- what it says and is not 0 is one of them.
-  pub numbered-on : (ks : List ℕ) (s : Said A) (k : ℕ) → Numbered s k → OnlyBy ks s → (k ≡ 0 → ⊥) → on ks k ≡ true
+  pub numbered-on : (ks : List ℕ) (s : Said A) (k : ℕ) → Numbered s k → OnlyBy ks s → (k ≡ 0 → ⊥)
+      → on ks k ≡ true
   numbered-on ks s k (answered a e z) o d = absurd (d z)
   numbered-on ks s k (refused r e z) o d = ap (on ks) z ∙ subst (OnlyBy ks) e o
   numbered-on ks s k (refused-at r p e z) o d = ap (on ks) z ∙ subst (OnlyBy ks) e o
@@ -130,7 +139,8 @@ module _ {A : Type 0} (ks : List ℕ) where
   pub judged-only : (cs : List Check) (a : A) → allOn ks cs ≡ true → OnlyBy ks (judged cs a)
   unfolding judged
   judged-only [] a h = tt
-  judged-only ((true else r) ∷ cs) a h = judged-only cs a (and-rest (on ks (numberOf r)) (allOn ks cs) h)
+  judged-only ((true else r) ∷ cs) a h =
+      judged-only cs a (and-rest (on ks (numberOf r)) (allOn ks cs) h)
   judged-only ((false else r) ∷ cs) a h = and-first (on ks (numberOf r)) (allOn ks cs) h
 
   pub placed-only : (p : ℕ) (s : Said A) → OnlyBy ks s → OnlyBy ks (placedAt p s)
@@ -138,7 +148,8 @@ module _ {A : Type 0} (ks : List ℕ) where
   placed-only p (refuses k) h = h
   placed-only p (refusesAt k q) h = h
 
-  pub then-only : {B : Type 0} (s : Said A) (f : A → Said B) → OnlyBy ks s → ((a : A) → OnlyBy ks (f a)) → OnlyBy ks (thenSaid s f)
+  pub then-only : {B : Type 0} (s : Said A) (f : A → Said B) → OnlyBy ks s
+      → ((a : A) → OnlyBy ks (f a)) → OnlyBy ks (thenSaid s f)
   then-only (gives a) f h g = g a
   then-only (refuses k) f h g = h
   then-only (refusesAt k p) f h g = h

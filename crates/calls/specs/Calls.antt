@@ -110,7 +110,8 @@ atStart l m = l ++ drop (length l) m
 -- A call that says s, whose answer reads as `reads` has it and whose memory is
 -- written as `writes` has it, promises: the answer r is what s reads, and the
 -- memory is m before and m′ after.
-pub record Call {A M R : Type 0} (reads : Said A → R) (writes : A → M → M) (s : Said A) (m : M) (r : R) (m′ : M) : Type 0 where
+pub record Call {A M R : Type 0} (reads : Said A → R) (writes : A → M → M) (s : Said A) (m : M)
+    (r : R) (m′ : M) : Type 0 where
   pub says : r ≡ reads s
   pub memory : m′ ≡ lentThen writes s m
 
@@ -120,7 +121,8 @@ Answers reads s r = Call {M = Unit {0}} reads (λ a m. m) s tt r tt
 
 -- The same where what is said is not computed, but settled by what holds of
 -- it.
-pub record CallBy {A M R : Type 0} (by : Said A → Type 0) (reads : Said A → R) (writes : A → M → M) (m : M) (r : R) (m′ : M) : Type 0 where
+pub record CallBy {A M R : Type 0} (by : Said A → Type 0) (reads : Said A → R) (writes : A → M → M)
+    (m : M) (r : R) (m′ : M) : Type 0 where
   pub said : Said A
   pub is : by said
   pub call : Call reads writes said m r m′

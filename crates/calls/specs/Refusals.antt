@@ -2,14 +2,11 @@
 -- beside its name, in src/lib.rt.
 use Prim.Native.Nat.{ℕ}
 use Rattle.calls.specs.declared.Refusal.{Refusal}
-use Rattle.calls.specs.declared.Refusal.the-variants.{Count, Length, Ends}
-use Rattle.calls.specs.declared.Refusal.the-variants.{Degree, Unreached}
+use Rattle.calls.specs.declared.Refusal.the-variants.{Count, Length, Ends, Degree, Unreached}
 use Rattle.calls.specs.declared.Refusal.the-variants.{Partition, Kind, Row}
-use Rattle.calls.specs.declared.Refusal.the-variants.{Misfit, Idle, Room}
-use Rattle.calls.specs.declared.Refusal.the-variants.{Field, Long, Text}
+use Rattle.calls.specs.declared.Refusal.the-variants.{Misfit, Idle, Room, Field, Long, Text}
 use Rattle.calls.specs.declared.Refusal.the-variants.{Side, Unseen, Sites}
-use Rattle.calls.specs.declared.Refusal.the-variants.{Data, State, Lengths}
-use Rattle.calls.specs.declared.Refusal.the-variants.{Rate}
+use Rattle.calls.specs.declared.Refusal.the-variants.{Data, State, Lengths, Rate}
 
 abbrev pub numberOf : Refusal → ℕ
 numberOf Count = 1

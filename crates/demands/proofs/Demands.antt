@@ -8,8 +8,7 @@ use Prim.Native.Nat.{ℕ, _+_, _*_, _^_, _≤_, _<_}
 use lib.Dec.{ltb}
 use lib.ListN.{length}
 use Rattle.calls.specs.declared.Refusal.{Refusal}
-use Rattle.calls.specs.Calls.{Said, gives, refuses, refusesAt, Pass, done, on}
-use Rattle.calls.specs.Calls.{Given}
+use Rattle.calls.specs.Calls.{Said, gives, refuses, refusesAt, Pass, done, on, Given}
 use Rattle.calls.proofs.CallLaws.{call-one, call-settles, callBy-one}
 use Rattle.calls.proofs.CallLaws.{callBy-settles, call-zero, call-on, call-kept}
 use Rattle.calls.proofs.CallLaws.{call-refused, call-refusedAt}
@@ -36,50 +35,45 @@ use Rattle.splits.proofs.SaidLaws.{induced-one, compared-one}
 use Rattle.moves.specs.Moves.{Move, moved, moveChecks}
 use Rattle.moves.specs.Groups.{moveRule}
 use Rattle.moves.specs.Verdicts.{movedSaid, judgedSaid, judgedOneSaid}
-use Rattle.moves.proofs.Moved.{moved-accepted, moved-dist}
-use Rattle.moves.proofs.MoveDemands.{move-same-mono, move-unchanged-mono}
-use Rattle.moves.proofs.MoveDemands.{same-iff-splits}
-use Rattle.rules.specs.Each.{zeros}
+use Rattle.moves.proofs.AnyMove.Moved.{moved-accepted, moved-dist}
+use Rattle.moves.proofs.AnyMove.Demands.{move-same-mono, move-unchanged-mono, same-iff-splits}
+use Rattle.rules.specs.Zeros.{zeros}
 use Rattle.rules.proofs.Judging.{zeros-unchanged}
-use Rattle.judge.specs.Promises.{moveSays, Applies, judgeSays, JudgesAll}
-use Rattle.judge.specs.Promises.{verdictSays, JudgesOne}
+use Rattle.judge.specs.Promises.{moveSays, Applies, judgeSays, JudgesAll, verdictSays, JudgesOne}
 use Rattle.judge.specs.declared.Moved.{Moved}
 use Rattle.judge.specs.declared.Judged.{Judged}
 use Rattle.judge.specs.declared.Verdict.{Verdict}
 use Rattle.judge.proofs.SaidLaws.{moved-one, judged-one, verdict-one}
 use Rattle.text.specs.Lines.{savedLine}
 use Rattle.text.specs.Plain.{Plain}
-use Rattle.listing.specs.Saved.{savedOf, ofFourOrMore, howManyFewer}
-use Rattle.listing.specs.Listing.{verdictLines, moveLines, linesOf, linesSaid}
-use Rattle.listing.specs.Listing.{linesSays, Page, placeAfter, Lists}
+use Rattle.saved.specs.Saved.{savedOf, ofFourOrMore, howManyFewer}
+use Rattle.move_lines.specs.MoveLines.{verdictLines, moveLines}
+use Rattle.listing.specs.Listing.{linesOf, linesSaid, linesSays, Page, placeAfter, Lists}
 use Rattle.listing.specs.declared.Lines.{Lines}
-use Rattle.listing.proofs.SavedLaws.{saved-unchanged, others-unchanged}
-use Rattle.listing.proofs.LineLaws.{lines-are}
+use Rattle.saved.proofs.SavedLaws.{saved-unchanged, others-unchanged}
+use Rattle.move_lines.proofs.LineLaws.{lines-are}
 use Rattle.listing.proofs.ListsLaws.{lines-one}
-use Rattle.job.specs.Job.{Known, next}
-use Rattle.job.specs.Job as job
-use Rattle.job.specs.Steps.{Lent, lending, toldOf, steppedSays}
-use Rattle.job.specs.Steps as steps
-use Rattle.job.specs.Runs.{first, run, Roomy}
-use Rattle.job.specs.Sound.{Going, Closes}
-use Rattle.job.specs.declared.State.{State}
-use Rattle.job.specs.declared.Stepped.{Stepped}
-use Rattle.job.proofs.PlainListing.{listing-plain}
-use Rattle.job.proofs.StateLaws.{stepped-one}
-use Rattle.job.proofs.Turns.{field-seen}
-use Rattle.job.proofs.StepForward.{step-forward}
-use Rattle.job.proofs.GoingLaws.{room-enough, going-field}
-use Rattle.job.proofs.RunLaws.{run-is-listing, listing-closes}
+use Rattle.jobs.specs.Job.{Known, next}
+use Rattle.jobs.specs.Job as job
+use Rattle.jobs.specs.Steps.{Lent, lending, toldOf, steppedSays}
+use Rattle.jobs.specs.Steps as steps
+use Rattle.jobs.specs.Runs.{first, run, Roomy}
+use Rattle.jobs.specs.Sound.{Going, Closes}
+use Rattle.jobs.specs.declared.State.{State}
+use Rattle.jobs.specs.declared.Stepped.{Stepped}
+use Rattle.jobs.proofs.PlainListing.{listing-plain}
+use Rattle.jobs.proofs.StateLaws.{stepped-one}
+use Rattle.jobs.proofs.Turns.{field-seen}
+use Rattle.jobs.proofs.StepForward.{step-forward}
+use Rattle.jobs.proofs.GoingLaws.{room-enough, going-field}
+use Rattle.jobs.proofs.RunLaws.{run-is-listing, listing-closes}
 use Rattle.grammar.specs.Newick.{IsTree}
 use Rattle.reader.specs.Promises.{Right, Reads, readingSays, Plants}
 use Rattle.reader.specs.declared.Reading.{Reading}
-use Rattle.reader.proofs.OneReading.{reads-one, reading-one, reads-valid}
-use Rattle.reader.proofs.OneReading.{reads-iff}
+use Rattle.reader.proofs.OneReading.{reads-one, reading-one, reads-valid, reads-iff}
 use Rattle.tusvlane.specs.Promises as c
-use Rattle.tusvlane.specs.Numbers.{checkNumbers, inducedNumbers}
-use Rattle.tusvlane.specs.Numbers.{compareNumbers, applyNumbers}
-use Rattle.tusvlane.specs.Numbers.{verdictNumbers, judgeNumbers, readNumbers}
-use Rattle.tusvlane.specs.Numbers.{stepNumbers}
+use Rattle.tusvlane.specs.Numbers.{checkNumbers, inducedNumbers, compareNumbers, applyNumbers}
+use Rattle.tusvlane.specs.Numbers.{verdictNumbers, judgeNumbers, readNumbers, stepNumbers}
 use Rattle.tusvlane.specs.declared.Answer.{Answer}
 use Rattle.tusvlane.specs.declared.Comparison.{Comparison}
 use Rattle.tusvlane.specs.declared.Placed.{Placed}

@@ -21,21 +21,24 @@ use Rattle.taxa.proofs.Unions.{within-or, has-union}
 use Rattle.tree.specs.Tree.{every}
 use Rattle.tree.specs.Refusals.{each, allSeen, partitionChecks, partitionsChecks}
 use Rattle.tree.proofs.RowCounts.{every-all, all-every, every-same}
-use Rattle.door.specs.Entered.{counted, countRight, partsSaid}
+use Rattle.door.specs.Between.{counted, countRight, partsSaid}
 
 module _ (n : ℕ) where
   -- ---- the union of a list
 
   -- It names none but the n taxa exactly where each set on the list does.
-  within-joined : (s : ℕ) (ys : List ℕ) → ltb (joined s ys) (2 ^ n) ≡ (ltb s (2 ^ n) && each (λ y. ltb y (2 ^ n)) ys)
+  within-joined : (s : ℕ) (ys : List ℕ)
+      → ltb (joined s ys) (2 ^ n) ≡ (ltb s (2 ^ n) && each (λ y. ltb y (2 ^ n)) ys)
   unfolding joined each
   within-joined s [] = sym (and-true (ltb s (2 ^ n)))
   within-joined s (y ∷ ys) =
       let rest : Bool = each (λ z. ltb z (2 ^ n)) ys in
-      within-joined (bitOr s y) ys ∙ ap (λ (b : Bool). b && rest) (within-or n s y) ∙ and-assoc (ltb s (2 ^ n)) (ltb y (2 ^ n)) rest
+      within-joined (bitOr s y) ys ∙ ap (λ (b : Bool). b && rest) (within-or n s y)
+      ∙ and-assoc (ltb s (2 ^ n)) (ltb y (2 ^ n)) rest
 
   pub within-union : (ys : List ℕ) → ltb (union ys) (2 ^ n) ≡ each (λ y. ltb y (2 ^ n)) ys
-  within-union ys = within-joined 0 ys ∙ ap (λ (b : Bool). b && each (λ y. ltb y (2 ^ n)) ys) (lt-ltb 0 (2 ^ n) (pow-pos n))
+  within-union ys = within-joined 0 ys
+      ∙ ap (λ (b : Bool). b && each (λ y. ltb y (2 ^ n)) ys) (lt-ltb 0 (2 ^ n) (pow-pos n))
 
   -- It has each of the n taxa exactly where each is in some set on the list.
   pub seen-union : (ys : List ℕ) → every (has (union ys)) n ≡ allSeen n ys
@@ -56,7 +59,9 @@ module _ (n : ℕ) where
           go : (i : ℕ) → i < n → (has y i ≡ true) ⊎ (has y i ≡ false) → has y i ≡ true
           go i l (inl w) = w
           go i l (inr w) =
-              absurd (not-both (has left i) (has-less (full n) y i ∙ and-both (has (full n) i) (not (has y i)) (has-ones n i ∙ lt-ltb i n l) (ap not w))
+              absurd (not-both (has left i)
+              (has-less (full n) y i ∙ and-both (has (full n) i) (not (has y i))
+              (has-ones n i ∙ lt-ltb i n l) (ap not w))
               (ap (λ (z : ℕ). has z i) (eqb-true left 0 h) ∙ has-none i))
 
       back : every (has y) n ≡ true → eqb (less (full n) y) 0 ≡ true
@@ -64,9 +69,12 @@ module _ (n : ℕ) where
         where
           none : (i : ℕ) → has left i ≡ true → ⊥
           none i w =
-              let both : (has (full n) i && not (has y i)) ≡ true = sym (has-less (full n) y i) ∙ w in
-              let l : i < n = ltb-true i n (sym (has-ones n i) ∙ and-left (has (full n) i) (not (has y i)) both) in
-              not-both (not (has y i)) (and-right (has (full n) i) (not (has y i)) both) (ap not (every-all (has y) n h i l))
+              let both : (has (full n) i && not (has y i)) ≡ true =
+              sym (has-less (full n) y i) ∙ w in
+              let l : i < n = ltb-true i n
+              (sym (has-ones n i) ∙ and-left (has (full n) i) (not (has y i)) both) in
+              not-both (not (has y i)) (and-right (has (full n) i) (not (has y i)) both)
+              (ap not (every-all (has y) n h i l))
 
 -- ---- how many partitions there are
 module _ (count : ℕ) where
@@ -87,8 +95,10 @@ module _ (n : ℕ) where
   counted-high h = rw (le-leb 4 n h)
 
   pub counted-range : counted n ≡ true → (4 ≤ n) × (n ≤ most)
-  counted-range h =
-      (leb-true 4 n (and-left (leb 4 n) (leb n most) h), leb-true n most (and-right (leb 4 n) (leb n most) h))
+  counted-range h = (
+    leb-true 4 n (and-left (leb 4 n) (leb n most) h),
+    leb-true n most (and-right (leb 4 n) (leb n most) h),
+  )
 
   module _ (cs : List Check) where
     pub parts-none : counted n ≡ false → gives tt ≡ partsSaid n cs
@@ -112,7 +122,8 @@ module _ (n y : ℕ) where
   unfolding judged
   part-right h = rw h
 
-  pub part-6 : ltb y (2 ^ n) ≡ false → refuses Refusal.Partition ≡ judged (partitionChecks n y) (tt {0})
+  pub part-6 : ltb y (2 ^ n) ≡ false
+      → refuses Refusal.Partition ≡ judged (partitionChecks n y) (tt {0})
   unfolding judged
   part-6 h = rw h
 
@@ -134,7 +145,8 @@ module _ (n : ℕ) (ys : List ℕ) where
   -- all being the union of the list
   module _ (right : countRight (length ys) ≡ true) {all : ℕ} (is : all ≡ union ys) where
     by-union : (countRight (length ys) && eachWithin) ≡ ltb all (2 ^ n)
-    by-union = ap (λ (b : Bool). b && eachWithin) right ∙ sym (ap (λ (z : ℕ). ltb z (2 ^ n)) is ∙ within-union n ys)
+    by-union = ap (λ (b : Bool). b && eachWithin) right
+        ∙ sym (ap (λ (z : ℕ). ltb z (2 ^ n)) is ∙ within-union n ys)
 
     pub union-6 : ltb all (2 ^ n) ≡ false → refuses Refusal.Partition ≡ listSaid
     union-6 w = list-6 (by-union ∙ w)
@@ -142,7 +154,8 @@ module _ (n : ℕ) (ys : List ℕ) where
     module _ (w : ltb all (2 ^ n) ≡ true) where
       past-6 : listSaid ≡ judged ((every (has all) n else Refusal.Unseen) ∷ []) tt
       past-6 =
-          judged-next (countRight (length ys) && eachWithin) Refusal.Partition ((allSeen n ys else Refusal.Unseen) ∷ []) tt (by-union ∙ w)
+          judged-next (countRight (length ys) && eachWithin) Refusal.Partition
+          ((allSeen n ys else Refusal.Unseen) ∷ []) tt (by-union ∙ w)
           ∙ ap (λ (b : Bool). judged ((b else Refusal.Unseen) ∷ []) tt)
           (sym (ap (λ (z : ℕ). every (has z) n) is ∙ seen-union n ys))
 
@@ -159,7 +172,8 @@ module _ (n : ℕ) (ys : List ℕ) where
   few-of p =
       let count = leb 1 (length ys) in
       let few = leb (length ys) mostPartitions in
-      leb-true (length ys) mostPartitions (and-right count few (and-left (count && few) eachWithin (p .0)))
+      leb-true (length ys) mostPartitions
+      (and-right count few (and-left (count && few) eachWithin (p .0)))
 
   pub each-of : Pass (partitionsChecks n ys) → each (λ y. ltb y (2 ^ n)) ys ≡ true
   each-of p = and-right (countRight (length ys)) eachWithin (p .0)

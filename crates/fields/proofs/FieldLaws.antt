@@ -1,7 +1,7 @@
 -- Which tag is allowed and which length is right at each test of the code; a
 -- number in bytes grows byte by byte. Assumes nothing.
 use mathlib.Core.Path.{_≡_, refl, ap}
-use mathlib.Core.Bool.{Bool, true, false, _&&_}
+use mathlib.Core.Bool.{Bool, true, false, _&&_, _||_}
 use mathlib.Core.List.{List, [], _∷_, _++_}
 use Prim.Native.Nat.{ℕ, _+_, _*_, _-_, _^_, _<_, _≤_}
 use native.Mathlib.Omega.{arith}
@@ -16,7 +16,8 @@ use borrow.Author.Tests.{eq-eqb, ne-eqb, le-leb, lt-leb, leb-true}
 use Rattle.taxa.specs.Most.{mostPartitions}
 use Rattle.taxa.specs.Sets.{pick}
 use Rattle.taxa.proofs.Bools.{bool-eq, and-false-r}
-use Rattle.fields.specs.Fields.{statedAt, headed, complete, highFirst, numberIn, allowedOf, allowed}
+use Rattle.fields.specs.Fields.{statedAt, headed, complete, highFirst, numberIn, allowedOf}
+use Rattle.fields.specs.Fields.{allowed}
 
 -- ---- tags
 module _ (at parts moves tag : ℕ) where
@@ -34,9 +35,14 @@ module _ (at parts moves tag : ℕ) where
     no-parts h = rw (ne-eqb at 0 a, ne-eqb at 4 b, eq-eqb parts 0 h)
 
     module _ (c : parts ≡ 0 → ⊥) where
-      pub a-move : tag ≡ 4 → true ≡ allowed at parts moves tag
+      -- a partition was read
+      later : allowed at parts moves tag
+          ≡ pick (eqb moves 0) (eqb tag 4 || eqb tag 3 && ltb parts mostPartitions) (eqb tag 4)
       unfolding allowedOf
-      a-move h = rw (ne-eqb at 0 a, ne-eqb at 4 b, ne-eqb parts 0 c, eq-eqb tag 4 h) (same (eqb moves 0))
+      later = rw (ne-eqb at 0 a, ne-eqb at 4 b, ne-eqb parts 0 c)
+
+      pub a-move : tag ≡ 4 → true ≡ allowed at parts moves tag
+      a-move h = rw (later, eq-eqb tag 4 h) (same (eqb moves 0))
         where
           same : (m : Bool) → true ≡ pick m true true
           same true = refl
@@ -44,26 +50,27 @@ module _ (at parts moves tag : ℕ) where
 
       module _ (d : tag ≡ 4 → ⊥) where
         pub moves-only : (moves ≡ 0 → ⊥) → false ≡ allowed at parts moves tag
-        unfolding allowedOf
-        moves-only h = rw (ne-eqb at 0 a, ne-eqb at 4 b, ne-eqb parts 0 c, ne-eqb tag 4 d, ne-eqb moves 0 h)
+        moves-only h = rw (later, ne-eqb tag 4 d, ne-eqb moves 0 h)
 
         pub no-tag : moves ≡ 0 → (tag ≡ 3 → ⊥) → false ≡ allowed at parts moves tag
-        unfolding allowedOf
-        no-tag h e = rw (ne-eqb at 0 a, ne-eqb at 4 b, ne-eqb parts 0 c, ne-eqb tag 4 d, eq-eqb moves 0 h, ne-eqb tag 3 e)
+        no-tag h e = rw (later, ne-eqb tag 4 d, eq-eqb moves 0 h, ne-eqb tag 3 e)
 
         pub more-parts : moves ≡ 0 → tag ≡ 3 → ltb parts mostPartitions ≡ allowed at parts moves tag
-        unfolding allowedOf
-        more-parts h e = rw (ne-eqb at 0 a, ne-eqb at 4 b, ne-eqb parts 0 c, ne-eqb tag 4 d, eq-eqb moves 0 h, eq-eqb tag 3 e)
+        more-parts h e = rw (later, ne-eqb tag 4 d, eq-eqb moves 0 h, eq-eqb tag 3 e)
 
 -- ---- lengths
 module _ (job : List ℕ) (at l : ℕ) where
-  pub no-head : length job - at < 3 → at < length job → false ≡ (headed job at && eqb (statedAt job at) l && complete job at l)
+  pub no-head : length job - at < 3 → at < length job
+      → false ≡ (headed job at && eqb (statedAt job at) l && complete job at l)
   no-head h b = rw (lt-leb (at + 3) (length job) (omega arith))
 
-  pub other-length : (statedAt job at ≡ l → ⊥) → false ≡ (headed job at && eqb (statedAt job at) l && complete job at l)
+  pub other-length : (statedAt job at ≡ l → ⊥)
+      → false ≡ (headed job at && eqb (statedAt job at) l && complete job at l)
   other-length d = rw (ne-eqb (statedAt job at) l d, and-false-r (headed job at))
 
-  pub right-length : 3 ≤ length job - at → statedAt job at ≡ l → leb l (length job - at - 3) ≡ (headed job at && eqb (statedAt job at) l && complete job at l)
+  pub right-length : 3 ≤ length job - at → statedAt job at ≡ l
+      → leb l (length job - at - 3)
+      ≡ (headed job at && eqb (statedAt job at) l && complete job at l)
   right-length h e = rw (le-leb (at + 3) (length job) (omega arith), eq-eqb (statedAt job at) l e)
       (bool-eq (leb l (length job - at - 3)) (complete job at l)
       (λ t. le-leb (at + 3 + l) (length job) (omega (arith, h, leb-true l (length job - at - 3) t)))
@@ -81,13 +88,25 @@ unfolding highFirst
 more-bytes a [] b = refl
 more-bytes a (c ∷ bs) b = more-bytes (a * 256 + c) bs b
 
-pub next-byte : (job : List ℕ) (from i y : ℕ) → from + i < length job → y ≡ numberIn (take i (drop from job)) → y * 256 + getD job (from + i) 0 ≡ numberIn (take (i + 1) (drop from job))
+pub next-byte : (job : List ℕ) (from i y : ℕ) → from + i < length job
+    → y ≡ numberIn (take i (drop from job))
+    → y * 256 + getD job (from + i) 0 ≡ numberIn (take (i + 1) (drop from job))
 next-byte job from i y l e =
-    rw (add-one i, take-suc (drop from job) i 0 (omega (arith, length-drop from job)), more-bytes 0 (take i (drop from job)) (getD (drop from job) i 0), getD-drop from job i 0)
+    rw (
+      add-one i,
+      take-suc (drop from job) i 0 (omega (arith, length-drop from job)),
+      more-bytes 0 (take i (drop from job)) (getD (drop from job) i 0),
+      getD-drop from job i 0,
+    )
     (ap (λ (n : ℕ). n * 256 + getD job (from + i) 0) e)
 
 pub byte-below : (i y b : ℕ) → y < 256 ^ i → b < 256 → y * 256 + b < 256 ^ (i + 1)
 byte-below i y b l k = rw (add-one i) (omega (arith, pow-suc 256 i))
 
 pub eight-bytes : (i y b : ℕ) → i < 8 → y < 256 ^ i → b < 256 → y * 256 + b < 2 ^ 64
-eight-bytes i y b h l k = omega (arith, byte-below i y b l k, pow-le-pow-right {n = 256} (omega arith) {i = i + 1} {j = 8} (omega arith))
+eight-bytes i y b h l k =
+    omega (
+      arith,
+      byte-below i y b l k,
+      pow-le-pow-right {n = 256} (omega arith) {i = i + 1} {j = 8} (omega arith),
+    )

@@ -67,7 +67,8 @@ unfoldable pub allowedOf : Edition → ℕ → ℕ → ℕ → ℕ → Bool
 allowedOf E at parts moves tag =
     pick (eqb at 0) (eqb tag 1)
     (pick (eqb at (tablePlace E)) (eqb tag 2)
-    (pick (eqb parts 0) (eqb tag 3) (pick (eqb moves 0) (eqb tag 4 || eqb tag 3 && ltb parts mostPartitions) (eqb tag 4))))
+    (pick (eqb parts 0) (eqb tag 3)
+    (pick (eqb moves 0) (eqb tag 4 || eqb tag 3 && ltb parts mostPartitions) (eqb tag 4))))
 
 abbrev pub allowed : ℕ → ℕ → ℕ → ℕ → Bool
 allowed = allowedOf narrow

@@ -12,12 +12,13 @@ use Rattle.taxa.proofs.Bools.{and-left, and-right, and-false-r}
 use Rattle.tree.specs.Tree.{lo, hi, rows, touches, Valid}
 use Rattle.tree.specs.Refusals.{Accepted, each}
 use Rattle.tree.proofs.Joins.{lo-touch, hi-touch}
-use Rattle.sides.specs.Filled.{At}
-use Rattle.moves.specs.Moves.{Move, allRows, atBoth, nniFits, target, targets, kindRight, rowsRight, fits, anyMoves}
-use Rattle.moves.specs.Plans.{planOf}
+use Rattle.sides.specs.Between.{At}
+use Rattle.moves.specs.Moves.{Move, allRows, atBoth, nniFits, target, targets, kindRight, rowsRight}
+use Rattle.moves.specs.Moves.{fits, anyMoves}
+use Rattle.moves.specs.Between.{planOf}
 use Rattle.moves.specs.declared.Side.{Side}
 use Rattle.moves.specs.declared.Plan.{Plan}
-use Rattle.fits.specs.Entries.{planSaid, nniSaid, sprSaid, tbrSaid}
+use Rattle.fits.specs.Between.{planSaid, nniSaid, sprSaid, tbrSaid}
 
 -- ---- row numbers
 module _ (n a b c : ℕ) where
@@ -31,14 +32,16 @@ module _ (n a b c : ℕ) where
 
   pub third-tells : a ≤ 2 * n - 4 → b ≤ 2 * n - 4 → leb c (2 * n - 4) ≡ allRows n (a ∷ b ∷ c ∷ [])
   unfolding each
-  third-tells h k = rw (le-leb a (2 * n - 4) h, le-leb b (2 * n - 4) k) (sym (and-true (leb c (2 * n - 4))))
+  third-tells h k = rw (le-leb a (2 * n - 4) h, le-leb b (2 * n - 4) k)
+      (sym (and-true (leb c (2 * n - 4))))
     where
       and-true : (p : Bool) → (p && true) ≡ p
       and-true true = refl
       and-true false = refl
 
   -- Three numbers of rows.
-  pub three-rows : 4 ≤ n → allRows n (a ∷ b ∷ c ∷ []) ≡ true → (a < rows n) × (b < rows n) × (c < rows n)
+  pub three-rows : 4 ≤ n → allRows n (a ∷ b ∷ c ∷ []) ≡ true
+      → (a < rows n) × (b < rows n) × (c < rows n)
   unfolding each
   three-rows big h =
       let top = 2 * n - 4 in
@@ -69,7 +72,8 @@ module _ (n : ℕ) (t : List ℕ) (e x y : ℕ) where
   nni-y h = rw (eq-eqb y e h, and-false-r (leb n (lo t e) && leb n (hi t e) && not (eqb x e)))
 
   module _ (vt : Valid n t) (le : e < rows n) (a : n ≤ lo t e) (b : x ≡ e → ⊥) (c : y ≡ e → ⊥) where
-    either-way : nniFits n t e x y ≡ (atBoth t x (lo t e) y (hi t e) || atBoth t x (hi t e) y (lo t e))
+    either-way : nniFits n t e x y
+        ≡ (atBoth t x (lo t e) y (hi t e) || atBoth t x (hi t e) y (lo t e))
     unfolding nniFits
     either-way =
         let l : n ≤ hi t e = omega (arith, vt .order e le .0) in
@@ -78,7 +82,8 @@ module _ (n : ℕ) (t : List ℕ) (e x y : ℕ) where
     pub nni-one : atBoth t x (lo t e) y (hi t e) ≡ true → true ≡ nniFits n t e x y
     nni-one h = sym (either-way ∙ ap (λ (p : Bool). p || atBoth t x (hi t e) y (lo t e)) h)
 
-    pub nni-other : atBoth t x (lo t e) y (hi t e) ≡ false → atBoth t x (hi t e) y (lo t e) ≡ nniFits n t e x y
+    pub nni-other : atBoth t x (lo t e) y (hi t e) ≡ false
+        → atBoth t x (hi t e) y (lo t e) ≡ nniFits n t e x y
     nni-other h = sym (either-way ∙ ap (λ (p : Bool). p || atBoth t x (hi t e) y (lo t e)) h)
 
 -- ---- the targets of a TBR
@@ -98,7 +103,8 @@ hi-end n t a v good l e = record { good = good; row = l; touch = ap (touches t a
 
 -- ---- what is said of the tests 8 to 10
 abbrev three : Bool → Bool → Bool → Plan → Said Plan
-three p q r a = judged ((p else Refusal.Row) ∷ (q else Refusal.Misfit) ∷ (r else Refusal.Idle) ∷ []) a
+three p q r a = judged ((p else Refusal.Row) ∷ (q else Refusal.Misfit) ∷ (r else Refusal.Idle) ∷ [])
+    a
 
 module _ (p q r : Bool) (a : Plan) where
   pub says-8 : p ≡ false → refuses Refusal.Row ≡ three p q r a
@@ -119,8 +125,10 @@ module _ (p q r : Bool) (a : Plan) where
 
 -- ---- a plan from its ends
 pub plan-is : {isNni : Bool} {a : ℕ} {f f′ s s′ : Side} → f ≡ f′ → s ≡ s′
-    → _≡_ {A = Plan} (record { nni = isNni; row = a; first = f; second = s }) (record { nni = isNni; row = a; first = f′; second = s′ })
-plan-is {isNni} {a} h k = ap₂ (λ (f s : Side). record { nni = isNni; row = a; first = f; second = s }) h k
+    → _≡_ {A = Plan} (record { nni = isNni; row = a; first = f; second = s })
+    (record { nni = isNni; row = a; first = f′; second = s′ })
+plan-is {isNni} {a} h k =
+    ap₂ (λ (f s : Side). record { nni = isNni; row = a; first = f; second = s }) h k
 
 -- ---- by the kind
 module _ (n : ℕ) (t : List ℕ) (m : Move) where
@@ -140,6 +148,7 @@ module _ (n : ℕ) (t : List ℕ) (m : Move) where
   unfolding judged kindRight
   spr-7 e d = rw (e, ne-eqb (m .third) 0 d)
 
-  pub no-kind : (m .kind ≡ 1 → ⊥) → (m .kind ≡ 2 → ⊥) → (m .kind ≡ 3 → ⊥) → refuses Refusal.Kind ≡ planSaid n t m
+  pub no-kind : (m .kind ≡ 1 → ⊥) → (m .kind ≡ 2 → ⊥) → (m .kind ≡ 3 → ⊥)
+      → refuses Refusal.Kind ≡ planSaid n t m
   unfolding judged kindRight
   no-kind a b c = rw (ne-eqb (m .kind) 1 a, ne-eqb (m .kind) 2 b, ne-eqb (m .kind) 3 c)

@@ -6,8 +6,10 @@ use Prim.Native.Nat.{ℕ, zero, suc, _+_, _≤_, _<_}
 use native.Mathlib.Omega.{arith}
 use lib.Arith.{lt-of-le-ne}
 use lib.Dec.{eqb, ltb}
-use borrow.Author.Tests.{lt-ltb, le-ltb, ltb-true, ltb-false, eq-eqb, eqb-true, eqb-false}
+use borrow.Author.Tests.{lt-ltb, le-ltb, ltb-true, eq-eqb, eqb-true, eqb-false}
 use Rattle.taxa.specs.Sets.{tally, has, size}
+use Rattle.taxa.proofs.Bools.{bool-eq}
+use Rattle.grammar.proofs.Low.{low-next}
 use Rattle.grammar.specs.Newick.{Member, taxon, group, two, three, times, timesIn, EachOnce}
 use Rattle.grammar.specs.Numbers.{groups}
 
@@ -29,15 +31,11 @@ labels-group (suc k) l r = omega (arith, labels-group k l r)
 labels-taxon : (k d : ℕ) → labels k (taxon d) ≡ tally (ltb d k)
 unfolding labels times
 labels-taxon zero d = ap tally (sym (le-ltb d 0 (omega arith)))
-labels-taxon (suc k) d = go (labels-taxon k d) (eqb d k) refl (ltb d k) refl
-  where
-    go : labels k (taxon d) ≡ tally (ltb d k) → (p : Bool) → eqb d k ≡ p
-        → (q : Bool) → ltb d k ≡ q
-        → tally (eqb d k) + labels k (taxon d) ≡ tally (ltb d (suc k))
-    go h true e true f = absurd (omega (arith, eqb-true d k e, ltb-true d k f))
-    go h true e false f = rw (e, h, f, lt-ltb d (suc k) (omega (arith, eqb-true d k e)))
-    go h false e true f = rw (e, h, f, lt-ltb d (suc k) (omega (arith, ltb-true d k f)))
-    go h false e false f = rw (e, h, f, le-ltb d (suc k) (lt-of-le-ne (ltb-false d k f) (λ q. eqb-false d k e (sym q))))
+labels-taxon (suc k) d =
+    let turned : eqb d k ≡ eqb k d =
+    bool-eq (eqb d k) (eqb k d) (λ e. eq-eqb k d (sym (eqb-true d k e)))
+    (λ e. eq-eqb d k (sym (eqb-true k d e))) in
+    omega (arith, labels-taxon k d, low-next k d, ap tally turned)
 
 -- all of a member's labels are counted
 pub labels-all : (k : ℕ) (t : Member) → Below k t → labels k t ≡ suc (groups t)
@@ -47,7 +45,11 @@ labels-all k (taxon d) b =
     labels-taxon k d ∙ ap tally (lt-ltb d k (b d here))
 labels-all k (group l r) b =
     labels-group k l r
-    ∙ omega (arith, labels-all k l (λ x p. b x (omega (arith, p))), labels-all k r (λ x p. b x (omega (arith, p))))
+    ∙ omega (
+      arith,
+      labels-all k l (λ x p. b x (omega (arith, p))),
+      labels-all k r (λ x p. b x (omega (arith, p))),
+    )
 
 -- the size of a set with a member's labels besides
 pub size-with : (k : ℕ) (t : Member) (u v : ℕ)
@@ -62,7 +64,8 @@ labels-full : (k : ℕ) (t : Member) → ((x : ℕ) → x < k → times x t ≡ 
     → labels k t ≡ k
 unfolding labels
 labels-full zero t h = refl
-labels-full (suc k) t h = omega (arith, h k (omega arith), labels-full k t (λ x p. h x (omega (arith, p))))
+labels-full (suc k) t h =
+    omega (arith, h k (omega arith), labels-full k t (λ x p. h x (omega (arith, p))))
 
 -- and the other way round
 pub full-labels : (k : ℕ) (t : Member) → ((x : ℕ) → times x t ≤ 1)

@@ -28,7 +28,8 @@ pub under-none : (t : List ℕ) (p m : ℕ) → ((r : ℕ) → r < m → hi t r 
 under-none t p m h = omega (arith, some)
   where
     some : 0 < under t p m → ⊥
-    some c = let f = count-find (λ r. eqb (hi t r) p) m c in h (f .0) (f .1) (eqb-true (hi t (f .0)) p (f .2))
+    some c = let f = count-find (λ r. eqb (hi t r) p) m c in
+        h (f .0) (f .1) (eqb-true (hi t (f .0)) p (f .2))
 
 -- row v joins node v to a larger one, which is no taxon; two rows end so at
 -- each inner node, three at the last
@@ -80,7 +81,8 @@ module _ (n : ℕ) (t : List ℕ) (big : 4 ≤ n) (w : Rooted n t) where
 
   -- from node 0 up to the last node, and down to any
   from-zero : (v : ℕ) → v ≤ rows n → Chain n t (rows n) 0 v
-  from-zero v h = climb (rows n) 0 v h (omega arith) .1 (climb (rows n) 0 0 (omega arith) (omega arith) .0 stay)
+  from-zero v h = climb (rows n) 0 v h (omega arith) .1
+      (climb (rows n) 0 0 (omega arith) (omega arith) .0 stay)
 
   -- so each node has its rows and is reached
   pub rooted-valid : Valid n t
@@ -93,11 +95,22 @@ module _ (n : ℕ) (t : List ℕ) (big : 4 ≤ n) (w : Rooted n t) where
         big = big;
         len = w .len;
         order = ends;
-        leaf = λ v h. omega
-            (arith, deg v, low-in (rows n) v (omega arith), under-none t v (rows n) (λ r l e. omega (arith, w .above r l .1)));
-        inner = λ v h l. omega (arith, deg v, w .twice v h, low-next (rows n) v, low-in (suc (rows n)) v (omega arith));
+        leaf = λ v h. omega (
+          arith,
+          deg v,
+          low-in (rows n) v (omega arith),
+          under-none t v (rows n) (λ r l e. omega (arith, w .above r l .1)),
+        );
+        inner = λ v h l. omega (
+          arith,
+          deg v,
+          w .twice v h,
+          low-next (rows n) v,
+          low-in (suc (rows n)) v (omega arith),
+        );
         connected = record {
           reached = λ v h. reach-chain n t (rows n) 0 v
-              (λ r l. (omega (arith, ends r l .0, ends r l .1), ends r l .1)) (omega arith) .1 (from-zero v (omega arith));
+              (λ r l. (omega (arith, ends r l .0, ends r l .1), ends r l .1)) (omega arith) .1
+              (from-zero v (omega arith));
         };
       }

@@ -10,12 +10,14 @@ use lib.ListN.{length}
 use borrow.Author.Tests.{lt-ltb, le-ltb, eq-eqb}
 use Rattle.taxa.specs.Sets.{tally}
 use Rattle.tree.specs.Tree.{rows, nodes, Valid}
-use Rattle.grammar.specs.Newick.{Member, taxon, group, Outermost, two, three, times, timesIn, EachOnce}
+use Rattle.grammar.specs.Newick.{Member, taxon, group, Outermost, two, three, times, timesIn}
+use Rattle.grammar.specs.Newick.{EachOnce}
 use Rattle.grammar.specs.Numbers.{groups, node, join, withRows, blank, table, smaller, larger}
 use Rattle.grammar.proofs.Labels.{Below, two-total, three-total}
 use Rattle.grammar.proofs.Low.{low, low-some, low-next}
 use Rattle.grammar.proofs.Rooted.{rooted-valid}
-use Rattle.grammar.proofs.Writes.{Writes, none, put, joins, firsts, seconds, Fit, length-written, Whole, whole-rooted, length-joins}
+use Rattle.grammar.proofs.Writes.{Writes, none, put, joins, firsts, seconds, Fit}
+use Rattle.grammar.proofs.Writes.{length-written, Whole, whole-rooted, length-joins}
 
 -- ---- the rows of a member, before those of w
 unfoldable within : Member → ℕ → Writes → Writes
@@ -38,7 +40,8 @@ within-joins (group l r) k w t =
 
 -- a member's nodes, itself included, are its labels and its groups' numbers
 within-firsts : (m : Member) (k : ℕ) (w : Writes) (v : ℕ)
-    → firsts v (within m k w) + tally (eqb (node m k) v) + low k v ≡ times v m + low (k + groups m) v + firsts v w
+    → firsts v (within m k w) + tally (eqb (node m k) v) + low k v ≡ times v m + low (k + groups m)
+    v + firsts v w
 unfolding within firsts node groups times
 within-firsts (taxon d) k w v =
     let e : low (k + 0) v ≡ low k v = ap (λ (x : ℕ). low x v) (omega arith) in
@@ -49,7 +52,14 @@ within-firsts (group l r) k w v =
     = ap (λ (x : ℕ). low x v) (omega arith) in
     let same : tally (eqb (k + (groups l + groups r)) v) ≡ tally (eqb (j + groups r) v)
     = ap (λ (x : ℕ). tally (eqb x v)) (omega arith) in
-    omega (arith, last, same, low-next (j + groups r) v, within-firsts r j (within l k w) v, within-firsts l k w v)
+    omega (
+      arith,
+      last,
+      same,
+      low-next (j + groups r) v,
+      within-firsts r j (within l k w) v,
+      within-firsts l k w v,
+    )
 
 -- each of its groups' nodes is above two rows
 within-seconds : (m : Member) (k : ℕ) (w : Writes) (p : ℕ)
@@ -62,7 +72,13 @@ within-seconds (group l r) k w p =
     let j = k + groups l in
     let last : low (k + suc (groups l + groups r)) p ≡ low (suc (j + groups r)) p
     = ap (λ (x : ℕ). low x p) (omega arith) in
-    omega (arith, last, low-next (j + groups r) p, within-seconds r j (within l k w) p, within-seconds l k w p)
+    omega (
+      arith,
+      last,
+      low-next (j + groups r) p,
+      within-seconds r j (within l k w) p,
+      within-seconds l k w p,
+    )
 
 -- its own node comes before any that closes after it
 pub node-lt : (n : ℕ) (m : Member) (k : ℕ) → Below n m → n ≤ k
@@ -106,7 +122,8 @@ listed n (three a b c) =
     let j = n + groups a in
     let k = j + groups b in
     let p = k + groups c in
-    put (node c k) p (put (node b j) p (put (node a n) p (within c k (within b j (within a n none)))))
+    put (node c k) p (put (node b j) p
+    (put (node a n) p (within c k (within b j (within a n none)))))
 
 -- they are the rows that the table has
 list-table : (n : ℕ) (o : Outermost) → table n o ≡ joins (listed n o) (blank n)
@@ -127,7 +144,8 @@ list-table n (three a b c) =
     let x = within b j w in
     let same : joins (within c k x) (blank n) ≡ withRows c k (withRows b j (withRows a n (blank n)))
     = within-joins c k x (blank n)
-    ∙ ap (withRows c k) (within-joins b j w (blank n) ∙ ap (withRows b j) (within-joins a n none (blank n))) in
+    ∙ ap (withRows c k) (within-joins b j w (blank n)
+    ∙ ap (withRows b j) (within-joins a n none (blank n))) in
     ap (λ (u : List ℕ). join (node c k) p (join (node b j) p (join (node a n) p u))) (sym same)
 
 -- the table has its length whatever the tree
@@ -141,8 +159,10 @@ pub last-larger : (n : ℕ) (a b : Member) → 4 ≤ n → Below n a → Below n
     → ((node a n < node b (n + groups a)) × (node b (n + groups a) ≡ rows n))
     ⊎ ((node b (n + groups a) < node a n) × (node a n ≡ rows n))
 unfolding node groups times
-last-larger n a (group l r) big ba bb s = inl (omega (arith, node-lt n a n ba (omega arith)), omega arith)
-last-larger n (group l r) (taxon d) big ba bb s = inr (omega (arith, node-lt n (taxon d) n bb (omega arith)), omega arith)
+last-larger n a (group l r) big ba bb s =
+    inl (omega (arith, node-lt n a n ba (omega arith)), omega arith)
+last-larger n (group l r) (taxon d) big ba bb s =
+    inr (omega (arith, node-lt n (taxon d) n bb (omega arith)), omega arith)
 last-larger n (taxon c) (taxon d) big ba bb s = absurd (omega arith)
 
 -- two members joined by a row from the one with node x to the last
@@ -163,7 +183,14 @@ two-whole n a b x big ba bb each l ends =
     let g = within-fit n (nodes n) b j w bb (omega arith) (omega arith) f in
     record {
       fit = (l, omega arith, omega arith, g);
-      once = λ v. omega (arith, each v, ends v, all v, within-firsts b j w v, within-firsts a n none v);
+      once = λ v. omega (
+        arith,
+        each v,
+        ends v,
+        all v,
+        within-firsts b j w v,
+        within-firsts a n none v,
+      );
       twice = λ p. omega (arith, all p, within-seconds b j w p, within-seconds a n none p);
     }
 
@@ -189,9 +216,28 @@ three-whole n a b c big ba bb bc each =
     let lb = node-lt n b j bb (omega arith) in
     let lc = node-lt n c k bc (omega arith) in
     record {
-      fit = (lc, omega arith, omega arith, (omega arith, omega arith, omega arith, (omega arith, omega arith, omega arith, h)));
-      once = λ v. omega (arith, each v, all v, within-firsts c k x v, within-firsts b j w v, within-firsts a n none v);
-      twice = λ p. omega (arith, all p, top p, within-seconds c k x p, within-seconds b j w p, within-seconds a n none p);
+      fit = (
+        lc,
+        omega arith,
+        omega arith,
+        (omega arith, omega arith, omega arith, (omega arith, omega arith, omega arith, h)),
+      );
+      once = λ v. omega (
+        arith,
+        each v,
+        all v,
+        within-firsts c k x v,
+        within-firsts b j w v,
+        within-firsts a n none v,
+      );
+      twice = λ p. omega (
+        arith,
+        all p,
+        top p,
+        within-seconds c k x p,
+        within-seconds b j w p,
+        within-seconds a n none p,
+      );
     }
 
 -- the rows of a tree make up a whole table
@@ -226,8 +272,10 @@ list-whole n (two a b) big each = go (last-larger n a b big ba bb (two-total n a
         (λ v. ap (λ (i : ℕ). tally (eqb x v) + tally (eqb i v)) (sym e)) in
         rw (lt-ltb x y l) (subst (λ (i : ℕ). Whole n (put x i w)) (sym e) h)
     go (inr (l, e)) =
-        let ends : (v : ℕ) → tally (eqb (rows n) v) ≡ tally (eqb x v) = λ v. ap (λ (i : ℕ). tally (eqb i v)) (sym e) in
-        let h : Whole n (put y (rows n) w) = two-whole n a b y big ba bb each (omega arith) (λ v. omega (arith, ends v)) in
+        let ends : (v : ℕ) → tally (eqb (rows n) v) ≡ tally (eqb x v) =
+        λ v. ap (λ (i : ℕ). tally (eqb i v)) (sym e) in
+        let h : Whole n (put y (rows n) w) =
+        two-whole n a b y big ba bb each (omega arith) (λ v. omega (arith, ends v)) in
         rw (le-ltb x y (omega arith)) (subst (λ (i : ℕ). Whole n (put y i w)) (sym e) h)
 list-whole n (three a b c) big each =
     three-whole n a b c big
@@ -241,4 +289,5 @@ pub table-valid : (n : ℕ) (o : Outermost) → 4 ≤ n → EachOnce n o
     → Valid n (table n o)
 table-valid n o big each =
     subst (Valid n) (sym (list-table n o))
-    (rooted-valid n (joins (listed n o) (blank n)) big (whole-rooted n (listed n o) big (list-whole n o big each)))
+    (rooted-valid n (joins (listed n o) (blank n)) big
+    (whole-rooted n (listed n o) big (list-whole n o big each)))

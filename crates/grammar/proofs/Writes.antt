@@ -31,7 +31,8 @@ module _ (t : List ℕ) (v p : ℕ) where
       ∙ getD-set-same t (2 * v) v 0 (omega arith)
 
   hi-join : 2 * v + 1 < length t → hi (join v p t) v ≡ p
-  hi-join h = getD-set-same (set t (2 * v) v) (2 * v + 1) p 0 (omega (arith, length-set t (2 * v) v))
+  hi-join h = getD-set-same (set t (2 * v) v) (2 * v + 1) p 0
+      (omega (arith, length-set t (2 * v) v))
 
   lo-other : (r : ℕ) → (r ≡ v → ⊥) → lo (join v p t) r ≡ lo t r
   lo-other r d =
@@ -60,7 +61,8 @@ count-one P Q v m l p h = go (Q v) refl
     go true q =
         let off : but Q v v ≡ false = rw (q, eq-eqb v v refl) in
         let rest : count (but Q v) m ≡ count P m
-        = count-same (but Q v) P m (λ r k. at (but Q v) off (λ s d. but-other Q v s d ∙ h s d) r (either (eqb r v))) in
+        = count-same (but Q v) P m
+        (λ r k. at (but Q v) off (λ s d. but-other Q v s d ∙ h s d) r (either (eqb r v))) in
         omega (arith, count-drop Q v m q l)
 
 -- a row written over a blank one is one more at the node it goes to
@@ -125,7 +127,8 @@ row-written : (n m : ℕ) (w : Writes) (t : List ℕ) (v : ℕ) → Fit n m w
     → Row n m v (joins w t)
 unfolding joins firsts Fit
 row-written n m none t v f h l = absurd (omega arith)
-row-written n m (put x p w) t v f h l = go (either (eqb x v)) (λ k. row-written n m w t v (f .3) h k)
+row-written n m (put x p w) t v f h l =
+    go (either (eqb x v)) (λ k. row-written n m w t v (f .3) h k)
   where
     u : List ℕ
     u = joins w t
@@ -163,7 +166,8 @@ under-joins (put v q w) t p m pos h z o =
     let mine : tally (eqb v v) ≡ 1 = ap tally (eq-eqb v v refl) in
     let only : firsts v w ≡ 0 = omega (arith, o v, mine, tally-one (ltb v m)) in
     let l : v < m = low-some m v (tally (eqb v v)) (omega (arith, mine)) (omega (arith, o v)) in
-    under-join (joins w t) v q p m pos l (omega (arith, length-joins w t)) (hi-kept w t v only ∙ z v)
+    under-join (joins w t) v q p m pos l (omega (arith, length-joins w t))
+    (hi-kept w t v only ∙ z v)
     ∙ omega (arith, under-joins w t p m pos h z (λ x. omega (arith, o x)))
 
 -- ---- the whole table, written from the blank one
@@ -183,7 +187,8 @@ blank-zero n r = go (either (ltb (2 * r + 1) (2 * rows n)))
         → hi (blank n) r ≡ 0
     go (inl e) = getD-replicate (2 * rows n) (2 * r + 1) 0 0 (ltb-true (2 * r + 1) (2 * rows n) e)
     go (inr e) =
-        List·getD-eq-default (blank n) 0 (omega (arith, blank-length n, ltb-false (2 * r + 1) (2 * rows n) e))
+        List·getD-eq-default (blank n) 0
+        (omega (arith, blank-length n, ltb-false (2 * r + 1) (2 * rows n) e))
 
 -- each row written once, to larger nodes, two to each inner one and three to
 -- the last
@@ -208,6 +213,7 @@ whole-rooted n w big h =
       above = λ r l. at r l .above;
       twice = λ p l.
           let clear = under-none (blank n) p (rows n) (λ r k e. omega (arith, blank-zero n r)) in
-          under-joins w (blank n) p (rows n) (omega arith) (omega arith) (blank-zero n) (λ v. omega (arith, h .once v))
+          under-joins w (blank n) p (rows n) (omega arith) (omega arith) (blank-zero n)
+          (λ v. omega (arith, h .once v))
           ∙ omega (arith, h .twice p, low-out n p l, clear);
     }

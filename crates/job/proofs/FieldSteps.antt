@@ -14,15 +14,16 @@ use Rattle.calls.specs.declared.Refusal.{Refusal}
 use Rattle.calls.proofs.CallLaws.{call-is}
 use Rattle.calls.proofs.CheckLaws.{judged-next, judged-fail}
 use Rattle.fields.specs.Fields.{tagAt, allowed}
-use Rattle.job.specs.Job.{Known, Outcome, next, over, after, seenSoFar, endStep, tagStep}
-use Rattle.job.specs.Job.{field, taggedStep, taxaField, tableField, partitionField, taxaStep}
-use Rattle.job.specs.Job.{putStep, tableStep, partitionStep, moveStep, withTaxa}
-use Rattle.job.specs.Job.{withPartition, fieldOf, taggedStepOf}
-use Rattle.job.specs.Steps.{Lent, lending, heldTable, knownOf, Held, fitting, toldOf}
-use Rattle.job.specs.Steps.{steppedSays, Gives, partsLent, tableLent}
-use Rattle.job.specs.declared.State.{State}
-use Rattle.job.specs.declared.Stepped.{Stepped}
-use Rattle.job.proofs.StepLaws.{lending-same, parts-held, table-first, table-fits}
+use Rattle.jobs.specs.Job.{Known, Outcome, next, over, after, seenSoFar, endStep, tagStep}
+use Rattle.jobs.specs.Job.{field, taggedStep, taxaField, tableField, partitionField, taxaStep}
+use Rattle.jobs.specs.Job.{putStep, tableStep, partitionStep, moveStep, withTaxa}
+use Rattle.jobs.specs.Job.{withPartition, fieldOf, taggedStepOf}
+use Rattle.jobs.specs.Steps.{Lent, lending, heldTable, knownOf, fitting, toldOf}
+use Rattle.jobs.specs.Between.{Held}
+use Rattle.jobs.specs.Steps.{steppedSays, Gives, partsLent, tableLent}
+use Rattle.jobs.specs.declared.State.{State}
+use Rattle.jobs.specs.declared.Stepped.{Stepped}
+use Rattle.jobs.proofs.StepLaws.{lending-same, parts-held, table-first, table-fits}
 
 -- ---- which step a tag takes
 module _ (job : List ℕ) (k : Known) (tag : ℕ) where
@@ -38,7 +39,8 @@ module _ (job : List ℕ) (k : Known) (tag : ℕ) where
   unfolding taggedStepOf
   field-3 e = rw e
 
-  pub field-4 : (tag ≡ 1 → ⊥) → (tag ≡ 2 → ⊥) → (tag ≡ 3 → ⊥) → moveStep job k ≡ taggedStep job k tag
+  pub field-4 : (tag ≡ 1 → ⊥) → (tag ≡ 2 → ⊥) → (tag ≡ 3 → ⊥)
+      → moveStep job k ≡ taggedStep job k tag
   unfolding taggedStepOf
   field-4 a b c = rw (ne-eqb tag 1 a, ne-eqb tag 2 b, ne-eqb tag 3 c)
 
@@ -47,12 +49,18 @@ module _ (job : List ℕ) (at : ℕ) (r : Stepped) (m : Lent) where
   -- What gives no table, no partitions and no lines fits.
   plain : (n : ℕ) → fitting at m (gives (next (withTaxa at n) [])) ≡ gives (next (withTaxa at n) [])
   plain n =
-      rw (le-leb 0 (length (m .table)) (omega arith), le-leb 0 (length (m .parts)) (omega arith), le-leb 0 (length (m .out)) (omega arith))
+      rw (
+        le-leb 0 (length (m .table)) (omega arith),
+        le-leb 0 (length (m .parts)) (omega arith),
+        le-leb 0 (length (m .out)) (omega arith),
+      )
 
-  pub taxa-gives : steppedSays r ≡ tells toldOf (taxaStep job at) → Gives (fitting at m (taxaStep job at)) r m m
+  pub taxa-gives : steppedSays r ≡ tells toldOf (taxaStep job at)
+      → Gives (fitting at m (taxaStep job at)) r m m
   taxa-gives = go (taxaField job at)
     where
-      go : (x : Said ℕ) → steppedSays r ≡ tells toldOf (after at x (λ n. gives (next (withTaxa at n) [])))
+      go : (x : Said ℕ) → steppedSays r
+          ≡ tells toldOf (after at x (λ n. gives (next (withTaxa at n) [])))
           → Gives (fitting at m (after at x (λ n. gives (next (withTaxa at n) [])))) r m m
       go (gives n) h = call-is (sym (plain n)) (record { says = h; memory = refl })
       go (refuses j) h = record { says = h; memory = refl }
@@ -68,26 +76,36 @@ module _ (job : List ℕ) (at n : ℕ) (r : Stepped) (table table′ parts out :
   table-so b u = pick (b && true && true) (putStep at n u) (refusesAt Refusal.Room at)
 
   so-table : (ps os u : List ℕ)
-      → fitting at (lending table ps os) (putStep at n u) ≡ table-so (leb (length u) (length table)) u
+      → fitting at (lending table ps os) (putStep at n u) ≡ table-so (leb (length u) (length table))
+      u
   so-table ps os u =
-      ap₂ (λ (a b : Bool). pick (leb (length u) (length table) && a && b) (putStep at n u) (refusesAt Refusal.Room at))
+      ap₂ (λ (a b : Bool). pick (leb (length u) (length table) && a && b) (putStep at n u)
+      (refusesAt Refusal.Room at))
       (le-leb 0 (length ps) (omega arith)) (le-leb 0 (length os) (omega arith))
 
-  kept-there : tableLent table′ ≡ tableLent table → lending table′ parts out ≡ lending table parts out
+  kept-there : tableLent table′ ≡ tableLent table
+      → lending table′ parts out ≡ lending table parts out
   kept-there e = ap (λ (x : Lent). lending (x .table) parts out) e
 
   table-wide : (b : Bool) (u : List ℕ) → Gives (table-so b u) r (tableLent table) (tableLent table′)
       → Gives (table-so b u) r (lending table parts out) (lending table′ parts out)
   table-wide true u g =
-      record { says = g .says; memory = ap (λ (x : Lent). lending (x .table) parts out) (g .memory) }
+      record {
+        says = g .says;
+        memory = ap (λ (x : Lent). lending (x .table) parts out) (g .memory);
+      }
   table-wide false u g = record { says = g .says; memory = kept-there (g .memory) }
 
-  pub table-gives : Gives (fitting at (tableLent table) (tableStep job at n)) r (tableLent table) (tableLent table′)
-      → Gives (fitting at (lending table parts out) (tableStep job at n)) r (lending table parts out) (lending table′ parts out)
+  pub table-gives : Gives (fitting at (tableLent table) (tableStep job at n)) r (tableLent table)
+      (tableLent table′)
+      → Gives (fitting at (lending table parts out) (tableStep job at n)) r
+      (lending table parts out) (lending table′ parts out)
   table-gives = go (tableField job at n)
     where
-      go : (x : Said (List ℕ)) → Gives (fitting at (tableLent table) (after at x (putStep at n))) r (tableLent table) (tableLent table′)
-          → Gives (fitting at (lending table parts out) (after at x (putStep at n))) r (lending table parts out) (lending table′ parts out)
+      go : (x : Said (List ℕ)) → Gives (fitting at (tableLent table) (after at x (putStep at n))) r
+          (tableLent table) (tableLent table′)
+          → Gives (fitting at (lending table parts out) (after at x (putStep at n))) r
+          (lending table parts out) (lending table′ parts out)
       go (gives u) g =
           call-is (sym (so-table parts out u))
           (table-wide (leb (length u) (length table)) u (call-is (so-table [] [] u) g))
@@ -102,46 +120,78 @@ module _ (job : List ℕ) (s : State) (r : Stepped) (table parts parts′ out : 
   -- what is known after a partition y, with the table u
   abbrev with-y : List ℕ → ℕ → Known
   with-y u y =
-      record { at = s .at + 11; taxa = s .taxa; table = u; parts = take (s .parts) parts ++ y ∷ []; moves = s .moves }
+      record {
+        at = s .at + 11;
+        taxa = s .taxa;
+        table = u;
+        parts = take (s .parts) parts ++ y
+            ∷ [];
+        moves = s .moves;
+      }
 
   -- the outcome of a partition y that fits where b says so, with the table u
   abbrev part-so : Bool → List ℕ → ℕ → Outcome
-  part-so b u y = pick (true && b && true) (gives (next (with-y u y) [])) (refusesAt Refusal.Room (s .at))
+  part-so b u y = pick (true && b && true) (gives (next (with-y u y) []))
+      (refusesAt Refusal.Room (s .at))
 
   so-part : (ts os : List ℕ) (y : ℕ)
       → fitting (s .at) (lending ts parts os) (gives (next (with-y (heldTable s ts) y) []))
       ≡ part-so (leb (length (take (s .parts) parts ++ y ∷ [])) (length parts)) (heldTable s ts) y
   so-part ts os y =
       let b = leb (length (take (s .parts) parts ++ y ∷ [])) (length parts) in
-      ap₂ (λ (a c : Bool). pick (a && b && c) (gives (next (with-y (heldTable s ts) y) [])) (refusesAt Refusal.Room (s .at)))
-      (le-leb (length (heldTable s ts)) (length ts) (table-fits s ts)) (le-leb 0 (length os) (omega arith))
+      ap₂ (λ (a c : Bool). pick (a && b && c) (gives (next (with-y (heldTable s ts) y) []))
+      (refusesAt Refusal.Room (s .at)))
+      (le-leb (length (heldTable s ts)) (length ts) (table-fits s ts))
+      (le-leb 0 (length os) (omega arith))
 
-  part-wide : (b : Bool) (y : ℕ) → Gives (part-so b (heldTable s []) y) r (partsLent parts) (partsLent parts′)
-      → Gives (part-so b (heldTable s table) y) r (lending table parts out) (lending table parts′ out)
+  part-wide : (b : Bool) (y : ℕ)
+      → Gives (part-so b (heldTable s []) y) r (partsLent parts) (partsLent parts′)
+      → Gives (part-so b (heldTable s table) y) r (lending table parts out)
+      (lending table parts′ out)
   part-wide true y g =
-      record { says = g .says; memory = lending-same (table-first s table) (ap (λ (x : Lent). x .parts) (g .memory)) refl }
+      record {
+        says = g .says;
+        memory = lending-same (table-first s table)
+            (ap (λ (x : Lent). x .parts) (g .memory)) refl;
+      }
   part-wide false y g =
-      record { says = g .says; memory = ap (λ (x : Lent). lending table (x .parts) out) (g .memory) }
+      record {
+        says = g .says;
+        memory = ap (λ (x : Lent). lending table (x .parts) out) (g .memory);
+      }
 
   pub partition-gives :
-      Gives (fitting (s .at) (partsLent parts) (partitionStep job (knownOf s (partsLent parts)))) r (partsLent parts) (partsLent parts′)
-      → Gives (fitting (s .at) (lending table parts out) (partitionStep job (knownOf s (lending table parts out)))) r (lending table parts out) (lending table parts′ out)
+      Gives (fitting (s .at) (partsLent parts) (partitionStep job (knownOf s (partsLent parts)))) r
+      (partsLent parts) (partsLent parts′)
+      → Gives (fitting (s .at) (lending table parts out)
+      (partitionStep job (knownOf s (lending table parts out)))) r (lending table parts out)
+      (lending table parts′ out)
   partition-gives = go (partitionField job (s .at) (s .taxa))
     where
       by : (ts os : List ℕ) → Said ℕ → Outcome
       by ts os x =
           fitting (s .at) (lending ts parts os)
-          (after (s .at) x (λ y. gives (next (withPartition (knownOf s (lending ts parts os)) y) [])))
+          (after (s .at) x (λ y. gives
+          (next (withPartition (knownOf s (lending ts parts os)) y) [])))
 
       go : (x : Said ℕ) → Gives (by [] [] x) r (partsLent parts) (partsLent parts′)
           → Gives (by table out x) r (lending table parts out) (lending table parts′ out)
       go (gives y) g =
           call-is (sym (so-part table out y))
-          (part-wide (leb (length (take (s .parts) parts ++ y ∷ [])) (length parts)) y (call-is (so-part [] [] y) g))
+          (part-wide (leb (length (take (s .parts) parts ++ y ∷ [])) (length parts)) y
+          (call-is (so-part [] [] y) g))
       go (refuses j) g =
-          record { says = g .says; memory = ap (λ (x : Lent). lending table (x .parts) out) (g .memory) }
+          record {
+            says = g .says;
+            memory = ap (λ (x : Lent). lending table (x .parts) out)
+                (g .memory);
+          }
       go (refusesAt j q) g =
-          record { says = g .says; memory = ap (λ (x : Lent). lending table (x .parts) out) (g .memory) }
+          record {
+            says = g .says;
+            memory = ap (λ (x : Lent). lending table (x .parts) out)
+                (g .memory);
+          }
 
 -- ---- the end of a job, 16 before a field, and a tag that is not allowed
 module _ (job : List ℕ) (s : State) (m : Lent) where
@@ -155,13 +205,18 @@ module _ (job : List ℕ) (s : State) (m : Lent) where
   o = fitting (s .at) m (field job k)
 
   -- What the end of a job gives is told, and leaves the memory.
-  pub end-gives : (r : Stepped) → length job ≤ s .at → steppedSays r ≡ tells toldOf (endStep (length job) k) → Gives o r m m
+  pub end-gives : (r : Stepped) → length job ≤ s .at
+      → steppedSays r ≡ tells toldOf (endStep (length job) k) → Gives o r m m
   unfolding fieldOf
   end-gives r a e =
-      call-is (ap (λ (b : Bool). fitting (s .at) m (pick b (endStep (length job) k) (tagStep job k tag))) (sym (le-leb (length job) (s .at) a)))
-      (go (judged ((leb 1 (length (k .parts)) else Refusal.Field) ∷ (seenSoFar k else Refusal.Unseen) ∷ []) (tt {0})) e)
+      call-is (ap (λ (b : Bool). fitting (s .at) m
+      (pick b (endStep (length job) k) (tagStep job k tag)))
+      (sym (le-leb (length job) (s .at) a)))
+      (go (judged ((leb 1 (length (k .parts)) else Refusal.Field)
+      ∷ (seenSoFar k else Refusal.Unseen) ∷ []) (tt {0})) e)
     where
-      go : (x : Said (Unit {0})) → steppedSays r ≡ tells toldOf (after (length job) x (λ u. gives over))
+      go : (x : Said (Unit {0}))
+          → steppedSays r ≡ tells toldOf (after (length job) x (λ u. gives over))
           → Gives (fitting (s .at) m (after (length job) x (λ u. gives over))) r m m
       go (gives u) w = record { says = w; memory = refl }
       go (refuses j) w = record { says = w; memory = refl }
@@ -175,24 +230,32 @@ module _ (job : List ℕ) (s : State) (m : Lent) where
     abbrev by : Said (Unit {0}) → Outcome
     by x = fitting (s .at) m (after (s .at) x (λ u. taggedStep job k tag))
 
-    at-field : o ≡ by (judged (((eqb tag 3 || seenSoFar k) else Refusal.Unseen) ∷ (ok else Refusal.Field) ∷ []) tt)
+    at-field : o ≡ by (judged
+        (((eqb tag 3 || seenSoFar k) else Refusal.Unseen) ∷ (ok else Refusal.Field) ∷ []) tt)
     unfolding fieldOf
-    at-field = ap (λ (b : Bool). fitting (s .at) m (pick b (endStep (length job) k) (tagStep job k tag))) (lt-leb (length job) (s .at) a)
+    at-field = ap (λ (b : Bool). fitting (s .at) m
+        (pick b (endStep (length job) k) (tagStep job k tag))) (lt-leb (length job) (s .at) a)
 
-    pub tag-16 : (eqb tag 3 || seenSoFar (knownOf s m)) ≡ false → o ≡ refusesAt Refusal.Unseen (s .at)
-    tag-16 e = at-field ∙ ap by (judged-fail (eqb tag 3 || seenSoFar k) Refusal.Unseen ((ok else Refusal.Field) ∷ []) tt e)
+    pub tag-16 : (eqb tag 3 || seenSoFar (knownOf s m)) ≡ false
+        → o ≡ refusesAt Refusal.Unseen (s .at)
+    tag-16 e = at-field ∙ ap by
+        (judged-fail (eqb tag 3 || seenSoFar k) Refusal.Unseen ((ok else Refusal.Field) ∷ []) tt e)
 
     module _ (e : (eqb tag 3 || seenSoFar (knownOf s m)) ≡ true) where
       past-16 : o ≡ by (judged ((ok else Refusal.Field) ∷ []) tt)
-      past-16 = at-field ∙ ap by (judged-next (eqb tag 3 || seenSoFar k) Refusal.Unseen ((ok else Refusal.Field) ∷ []) tt e)
+      past-16 = at-field ∙ ap by
+          (judged-next (eqb tag 3 || seenSoFar k) Refusal.Unseen ((ok else Refusal.Field) ∷ []) tt
+          e)
 
       held : ok ≡ allowed (s .at) (s .parts) (s .moves) tag
       held = ap (λ (c : ℕ). allowed (s .at) c (s .moves) tag) (parts-held s m h)
 
-      pub tag-12 : allowed (s .at) (s .parts) (s .moves) tag ≡ false → o ≡ refusesAt Refusal.Field (s .at)
+      pub tag-12 : allowed (s .at) (s .parts) (s .moves) tag ≡ false
+          → o ≡ refusesAt Refusal.Field (s .at)
       tag-12 w = past-16 ∙ ap by (judged-fail ok Refusal.Field [] tt (held ∙ w))
 
-      pub tag-next : allowed (s .at) (s .parts) (s .moves) tag ≡ true → fitting (s .at) m (taggedStep job k tag) ≡ o
+      pub tag-next : allowed (s .at) (s .parts) (s .moves) tag ≡ true
+          → fitting (s .at) m (taggedStep job k tag) ≡ o
       unfolding judged
       tag-next w = sym (past-16 ∙ ap by (judged-next ok Refusal.Field [] tt (held ∙ w)))
 

@@ -1,12 +1,1 @@
 pub mod FieldSteps
-pub mod GoingLaws
-pub mod PlainListing
-pub mod ReadLaws
-pub mod RunLaws
-pub mod SeenLaws
-pub mod SoundLaws
-pub mod StateLaws
-pub mod StepForward
-pub mod StepIsField
-pub mod StepLaws
-pub mod Turns

@@ -1,40 +1,34 @@
 -- The groups on the two sides of a plan: what they ask for, and that the
 -- numbers from them are the distances of the trees before and after the move.
 -- Assumes nothing.
-use mathlib.Core.Path.{_≡_, sym, ap, ap₂, _∙_}
+use mathlib.Core.Path.{_≡_, ap, ap₂, _∙_}
 use mathlib.Core.Bool.{true, false}
-use mathlib.Core.List.{List, _++_}
+use mathlib.Core.List.{List}
 use Prim.Native.Nat.{ℕ, _^_, _≤_, _<_}
 use native.Mathlib.Omega.{arith}
 use lib.Dec.{ltb}
-use lib.ListN.{length, take, drop, length-append}
-use lib.Seq.{take-append-seam}
+use lib.ListN.{length, take}
 use borrow.Author.Tests.{le-ltb}
 use Rattle.tree.specs.Splits.{dist, distances}
 use Rattle.tree.specs.Refusals.{each}
 use Rattle.moves.specs.Groups.{stayed}
-use Rattle.moves.specs.Plans.{planMoved, sideGroups, byGroups}
+use Rattle.moves.specs.Between.{planMoved, sideGroups, byGroups}
 use Rattle.moves.specs.declared.Side.{Side}
 use Rattle.moves.specs.declared.Plan.{Plan}
-use Rattle.moves.proofs.Plans.{PlanRight, plan-right, plan-dist}
-use Rattle.rewrite.specs.Asked.{Rewrites}
-use Rattle.walks.specs.Way.{Asked, Listed, room}
-use Rattle.rules.specs.Each.{zeros, Few, Judges}
-use Rattle.rules.proofs.Judging.{mapped-distances, distances-length}
-use Rattle.door.specs.Entered.{Ready}
-use Rattle.judge.specs.Promises.{Told}
-
--- a list at the start of a lent one
-module _ {m : ℕ} {gs out out′ : List ℕ} {k : ℕ} (l : Listed m gs out k out′) where
-  pub listed-take : take k out′ ≡ gs
-  listed-take =
-      ap (take k) (l .memory) ∙ ap (λ (j : ℕ). take j (gs ++ drop k out)) (l .count) ∙ take-append-seam gs (drop k out)
-
-  pub listed-within : k ≤ length out′
-  listed-within = omega (arith, l .count, ap length (l .memory), length-append gs (drop k out))
+use Rattle.moves.proofs.AnyMove.Plans.{PlanRight, plan-right, plan-dist}
+use Rattle.calls.specs.Calls.{atStart}
+use Rattle.calls.specs.Between.{Wrote}
+use Rattle.calls.proofs.StartLaws.{wrote-take}
+use Rattle.rewrite.specs.Between.{Rewrites}
+use Rattle.walks.specs.Between.{Asked, Listed, room}
+use Rattle.rules.specs.Zeros.{zeros}
+use Rattle.rules.specs.Between.{Few, Judges}
+use Rattle.rules.proofs.Judging.{mapped-distances}
+use Rattle.door.specs.Between.{Ready}
 
 -- an inner node that stays has two groups
-inner-two : (n : ℕ) (t : List ℕ) (a : ℕ) (s : Side) → n ≤ s .node → s .goes ≡ false → length (sideGroups n t a s) ≡ 2
+inner-two : (n : ℕ) (t : List ℕ) (a : ℕ) (s : Side) → n ≤ s .node → s .goes ≡ false
+    → length (sideGroups n t a s) ≡ 2
 unfolding sideGroups stayed
 inner-two n t a s l h = rw (h, le-ltb (s .node) n l)
 
@@ -48,35 +42,53 @@ module _ {n : ℕ} {t near s : List ℕ} {p : Plan} (R : Ready n t near s p) whe
 
   -- ---- what the groups ask for
   pub first-asked : {out : List ℕ} → length out ≡ room → Asked n t near s (p .row) (p .first) out
-  first-asked l = record { looked = R .looked; row = rights .row; right = rights .first; for-groups = l }
+  first-asked l = record {
+    looked = R .looked;
+    row = rights .row;
+    right = rights .first;
+    for-groups = l;
+  }
 
   pub second-asked : {out : List ℕ} → length out ≡ room → Asked n t near s (p .row) (p .second) out
-  second-asked l = record { looked = R .looked; row = rights .row; right = rights .second; for-groups = l }
+  second-asked l = record {
+    looked = R .looked;
+    row = rights .row;
+    right = rights .second;
+    for-groups = l;
+  }
 
   -- ---- those that were listed
-  module _ {gs gs′ hs hs′ : List ℕ} {k j : ℕ} (g : Listed room (sideGroups n t (p .row) (p .first)) gs k gs′)
+  module _ {gs gs′ hs hs′ : List ℕ} {k j : ℕ}
+      (g : Listed room (sideGroups n t (p .row) (p .first)) gs k gs′)
       (h : Listed room (sideGroups n t (p .row) (p .second)) hs j hs′) where
     pub listed-few : Few (p .nni) (take k gs′) (take j hs′)
     listed-few = record {
-      first = omega (arith, ap length (listed-take g), g .count, g .few);
-      second = omega (arith, ap length (listed-take h), h .count, h .few);
+      first = omega (arith, ap length (wrote-take (g .wrote)), g .wrote .count, g .few);
+      second = omega (arith, ap length (wrote-take (h .wrote)), h .wrote .count, h .few);
       twos = λ q. (
-        ap length (listed-take g) ∙ inner-two n t (p .row) (p .first) (rights .inner q .0) (rights .stay q .0),
-        ap length (listed-take h) ∙ inner-two n t (p .row) (p .second) (rights .inner q .1) (rights .stay q .1),
+        ap length (wrote-take (g .wrote))
+            ∙ inner-two n t (p .row) (p .first) (rights .inner q .0) (rights .stay q .0),
+        ap length (wrote-take (h .wrote))
+            ∙ inner-two n t (p .row) (p .second) (rights .inner q .1) (rights .stay q .1),
       );
     }
 
-    pub listed-dist : (y : ℕ) → y < 2 ^ n → byGroups (p .nni) (take k gs′) (take j hs′) y ≡ dist n t (planMoved n t p) y
+    pub listed-dist : (y : ℕ) → y < 2 ^ n
+        → byGroups (p .nni) (take k gs′) (take j hs′) y ≡ dist n t (planMoved n t p) y
     listed-dist y l =
-        ap₂ (λ (x z : List ℕ). byGroups (p .nni) x z y) (listed-take g) (listed-take h)
+        ap₂ (λ (x z : List ℕ). byGroups (p .nni) x z y) (wrote-take (g .wrote))
+        (wrote-take (h .wrote))
         ∙ plan-dist (R .looked .good .valid) (R .plan) y l
 
-    pub listed-told : (ys out : List ℕ) {r : ℕ} {out′ : List ℕ} → each (λ y. ltb y (2 ^ n)) ys ≡ true
-        → Judges (byGroups (p .nni) (take k gs′) (take j hs′)) ys out r out′ → Told (distances n t (planMoved n t p) ys) out r out′
+    pub listed-told : (ys out : List ℕ) {r : ℕ} {out′ : List ℕ}
+        → each (λ y. ltb y (2 ^ n)) ys ≡ true
+        → Judges (byGroups (p .nni) (take k gs′) (take j hs′)) ys out r out′
+        → Wrote zeros (distances n t (planMoved n t p) ys) out r out′
     listed-told ys out all J =
         let u = planMoved n t p in
-        let e = mapped-distances (byGroups (p .nni) (take k gs′) (take j hs′)) n t u ys all listed-dist in
+        let e = mapped-distances (byGroups (p .nni) (take k gs′) (take j hs′)) n t u ys all
+        listed-dist in
         record {
           count = J .count ∙ ap zeros e;
-          memory = J .memory ∙ ap₂ (λ (ds : List ℕ) (i : ℕ). ds ++ drop i out) e (sym (distances-length n t u ys));
+          memory = J .memory ∙ ap (λ (ds : List ℕ). atStart ds out) e;
         }

@@ -5,10 +5,13 @@ ghost use mathlib.Core.Path.{_≡_};
 ghost use Rattle.calls.specs.Calls.{Pass};
 ghost use Rattle.tree.specs.Splits.{dist, distances};
 ghost use Rattle.tree.specs.Refusals.{partitionsChecks};
-ghost use Rattle.moves.specs.Plans.{planMoved};
+ghost use Rattle.moves.specs.Between.{planMoved};
 ghost use Rattle.fits.specs.Entries.{moveOf};
-ghost use Rattle.door.specs.Entered.{Ready};
-ghost use Rattle.judge.specs.Promises.{Applies, JudgesAll, JudgesPlan, JudgesOne, Judgeable, Told};
+ghost use Rattle.door.specs.Between.{Ready};
+ghost use Rattle.judge.specs.Promises.{Applies, JudgesAll, JudgesOne};
+ghost use Rattle.judge.specs.Between.{JudgesPlan, Judgeable};
+ghost use Rattle.calls.specs.Between.{Wrote};
+ghost use Rattle.rules.specs.Zeros.{zeros};
 use calls::Refusal;
 use fits::Entry;
 use fits::Fitted;
@@ -65,7 +68,7 @@ pub fn judge_groups(
     ensures { λ r.
         let t = now (t .entry) in
         let ds = distances n t (planMoved n t p) (now (ys .entry)) in
-        ⌜ Told ds (now (out .entry)) r (now (out .exit)) ⌝ }
+        ⌜ Wrote zeros ds (now (out .entry)) r (now (out .exit)) ⌝ }
 {
     let mut gs = [0u64; walks::ROOM];
     let mut hs = [0u64; walks::ROOM];

@@ -14,10 +14,10 @@ use lib.Seq.{drop-cons}
 use borrow.Author.Tests.{lt-ltb, le-ltb, ltb-true, le-leb, lt-leb, leb-true, ltb-false}
 use Rattle.taxa.specs.Most.{most}
 use Rattle.taxa.specs.Sets.{has, some, lowest}
-use Rattle.taxa.proofs.Bools.{either, and-left, and-right, and-false-r, and-both, or-left, or-cases, or-neither}
+use Rattle.taxa.proofs.Bools.{either, and-left, and-right, and-false-r, and-both, or-left, or-cases}
+use Rattle.taxa.proofs.Bools.{or-neither}
 use Rattle.taxa.proofs.Sets.{has-below, has-mod, some-zero, some-has, some-lowest}
-use Rattle.labels.specs.Labels.{digit, Stop}
-use Rattle.labels.specs.Heads.{digitAt, valueAt, seconds, begun}
+use Rattle.labels.specs.Between.{digit, Stop, digitAt, valueAt, seconds, begun}
 
 -- ---- the digit at a place
 module _ (s : List ℕ) (at : ℕ) where
@@ -35,12 +35,14 @@ module _ (s : List ℕ) (at : ℕ) where
 
   pub below-digits : getD s at 0 < 48 → 10 ≡ valueAt s at
   below-digits h =
-      none-there (ap (λ (p : Bool). ltb at (length s) && (p && leb (getD s at 0) 57)) (lt-leb 48 (getD s at 0) h)
+      none-there (ap (λ (p : Bool). ltb at (length s) && (p && leb (getD s at 0) 57))
+      (lt-leb 48 (getD s at 0) h)
       ∙ and-false-r (ltb at (length s)))
 
   pub above-digits : 57 < getD s at 0 → 10 ≡ valueAt s at
   above-digits h =
-      none-there (ap (λ (p : Bool). ltb at (length s) && (leb 48 (getD s at 0) && p)) (lt-leb (getD s at 0) 57 h)
+      none-there (ap (λ (p : Bool). ltb at (length s) && (leb 48 (getD s at 0) && p))
+      (lt-leb (getD s at 0) 57 h)
       ∙ ap (λ (p : Bool). ltb at (length s) && p) (and-false-r (leb 48 (getD s at 0)))
       ∙ and-false-r (ltb at (length s)))
 
@@ -48,7 +50,8 @@ module _ (s : List ℕ) (at : ℕ) where
       → getD s at 0 - 48 ≡ valueAt s at
   among-digits h l k =
       sym (one-there (and-both (ltb at (length s)) (digit (getD s at 0)) (lt-ltb at (length s) h)
-      (and-both (leb 48 (getD s at 0)) (leb (getD s at 0) 57) (le-leb 48 (getD s at 0) l) (le-leb (getD s at 0) 57 k))))
+      (and-both (leb 48 (getD s at 0)) (leb (getD s at 0) 57) (le-leb 48 (getD s at 0) l)
+      (le-leb (getD s at 0) 57 k))))
 
   -- back from the number to the byte
   pub value-byte : valueAt s at < 10
@@ -59,8 +62,12 @@ module _ (s : List ℕ) (at : ℕ) where
           → (at < length s) × (getD s at 0 ≡ 48 + valueAt s at)
       go (inl e) =
           let d = and-right (ltb at (length s)) (digit (getD s at 0)) e in
-          let l : 48 ≤ getD s at 0 = leb-true 48 (getD s at 0) (and-left (leb 48 (getD s at 0)) (leb (getD s at 0) 57) d) in
-          (ltb-true at (length s) (and-left (ltb at (length s)) (digit (getD s at 0)) e), omega (arith, one-there e, l))
+          let l : 48 ≤ getD s at 0 =
+          leb-true 48 (getD s at 0)
+          (and-left (leb 48 (getD s at 0)) (leb (getD s at 0) 57) d) in (
+            ltb-true at (length s) (and-left (ltb at (length s)) (digit (getD s at 0)) e),
+            omega (arith, one-there e, l),
+          )
       go (inr e) = absurd (omega (arith, none-there e, h))
 
   pub value-stop : 9 < valueAt s at → Stop (drop at s)
@@ -73,7 +80,9 @@ module _ (s : List ℕ) (at : ℕ) where
       byte l (inr e) = e
       byte l (inl e) =
           let q = and-both (ltb at (length s)) (digit (getD s at 0)) l e in
-          let k : getD s at 0 ≤ 57 = leb-true (getD s at 0) 57 (and-right (leb 48 (getD s at 0)) (leb (getD s at 0) 57) e) in
+          let k : getD s at 0 ≤ 57 =
+          leb-true (getD s at 0) 57
+          (and-right (leb 48 (getD s at 0)) (leb (getD s at 0) 57) e) in
           absurd (omega (arith, one-there q, h, k))
 
       go : (ltb at (length s) ≡ true) ⊎ (ltb at (length s) ≡ false)
@@ -123,7 +132,8 @@ module _ (u a : ℕ) where
 
   pub begun-high : u < 2 ^ most → has u a ≡ false → 6 < a → false ≡ begun u a
   begun-high l h k =
-      let z : u / 2 ^ (10 * a) ≡ 0 = div-eq-of-lt (lt-of-lt-of-le l (pow-mono {i = most} (omega arith))) in
+      let z : u / 2 ^ (10 * a) ≡ 0 =
+      div-eq-of-lt (lt-of-lt-of-le l (pow-mono {i = most} (omega arith))) in
       sym (begun-more h
       ∙ ap (λ (p : Bool). ltb 0 a && p) (ap some (ap (λ (x : ℕ). x % 2 ^ 10) z) ∙ some-zero)
       ∙ and-false-r (ltb 0 a))
@@ -142,10 +152,13 @@ module _ (u a : ℕ) where
       go (inl h) = (a, h, alone refl)
       go (inr h) =
           let i = lowest 10 (seconds u a) in
-          let m = sym (has-seconds u a i) ∙ some-lowest 10 (seconds u a) (mod-lt (u / 2 ^ (10 * a)) (pow-pos 10)) (and-right (ltb 0 a) (some (seconds u a)) h) in (
+          let m = sym (has-seconds u a i)
+          ∙ some-lowest 10 (seconds u a) (mod-lt (u / 2 ^ (10 * a)) (pow-pos 10))
+          (and-right (ltb 0 a) (some (seconds u a)) h) in (
             10 * a + i,
             and-right (ltb i 10) (has u (10 * a + i)) m,
-            with-second (ltb-true 0 a (and-left (ltb 0 a) (some (seconds u a)) h)) i (ltb-true i 10 (and-left (ltb i 10) (has u (10 * a + i)) m)) refl,
+            with-second (ltb-true 0 a (and-left (ltb 0 a) (some (seconds u a)) h)) i
+                (ltb-true i 10 (and-left (ltb i 10) (has u (10 * a + i)) m)) refl,
           )
 
   pub begun-none : begun u a ≡ false → (d : ℕ) → has u d ≡ true → Begins a d → ⊥
@@ -153,6 +166,8 @@ module _ (u a : ℕ) where
   begun-none e d h (alone p) =
       true≢false (sym h ∙ ap (has u) p ∙ or-neither (has u a) (ltb 0 a && some (seconds u a)) e .0)
   begun-none e d h (with-second l i k p) =
-      let m = has-seconds u a i ∙ and-both (ltb i 10) (has u (10 * a + i)) (lt-ltb i 10 k) (sym (ap (has u) p) ∙ h) in
-      true≢false (sym (and-both (ltb 0 a) (some (seconds u a)) (lt-ltb 0 a l) (some-has (seconds u a) i m))
+      let m = has-seconds u a i ∙ and-both (ltb i 10) (has u (10 * a + i)) (lt-ltb i 10 k)
+      (sym (ap (has u) p) ∙ h) in
+      true≢false (sym (and-both (ltb 0 a) (some (seconds u a)) (lt-ltb 0 a l)
+      (some-has (seconds u a) i m))
       ∙ or-neither (has u a) (ltb 0 a && some (seconds u a)) e .1)

@@ -15,10 +15,11 @@ use Rattle.taxa.specs.Sets.{has}
 use Rattle.taxa.proofs.Bools.{either}
 use Rattle.taxa.proofs.Sets.{has-below}
 use Rattle.text.specs.Lines.{decimal}
-use Rattle.labels.specs.Labels.{Stop, Ends, Found, Missed}
-use Rattle.labels.specs.Heads.{valueAt, begun}
-use Rattle.labels.proofs.HeadLaws.{value-byte, value-stop, Begins, alone, with-second, begun-some, begun-none}
-use Rattle.labels.proofs.TextLaws.{step, cancel, one-digit, two-digits, digit-goes-on, Spelt, single, double, spelt}
+use Rattle.labels.specs.Between.{Stop, Ends, Found, Missed, valueAt, begun}
+use Rattle.labels.proofs.HeadLaws.{value-byte, value-stop, Begins, alone, with-second}
+use Rattle.labels.proofs.HeadLaws.{begun-some, begun-none}
+use Rattle.labels.proofs.TextLaws.{step, cancel, one-digit, two-digits, digit-goes-on, Spelt}
+use Rattle.labels.proofs.TextLaws.{single, double, spelt}
 
 module _ (s : List ℕ) (at u : ℕ) where
   -- a label of one digit
@@ -129,7 +130,17 @@ module _ (s : List ℕ) (at u : ℕ) where
           let r : (10 * a + c) % 10 ≡ c = omega arith in
           record {
             among = m;
-            is = λ x. rw (two, step s x (at + 1) (v .0), next, add-one at, step s ((48 + c) ∷ x) at here, byte, two-digits (10 * a + c) (omega arith) (omega arith), q, r);
+            is = λ x. rw (
+              two,
+              step s x (at + 1) (v .0),
+              next,
+              add-one at,
+              step s ((48 + c) ∷ x) at here,
+              byte,
+              two-digits (10 * a + c) (omega arith) (omega arith),
+              q,
+              r,
+            );
             moved = omega arith;
             inside = omega (arith, v .0);
             ends = λ _ l. absurd (omega arith);
@@ -148,8 +159,19 @@ module _ (s : List ℕ) (at u : ℕ) where
               (d, [], m, rw (add-one at, step s [] at here, byte, p, one-digit a low))
           go (d, m, with-second l i k p) =
               let q : d / 10 ≡ a = omega arith in
-              let r : d % 10 ≡ i = omega arith in
-              (d, (48 + i) ∷ [], m, rw (add-one at, step s ((48 + i) ∷ []) at here, byte, two-digits d (omega arith) (omega arith), q, r))
+              let r : d % 10 ≡ i = omega arith in (
+                d,
+                (48 + i) ∷ [],
+                m,
+                rw (
+                  add-one at,
+                  step s ((48 + i) ∷ []) at here,
+                  byte,
+                  two-digits d (omega arith) (omega arith),
+                  q,
+                  r,
+                ),
+              )
 
       -- the label by its first two bytes
       from-second : (x : List ℕ) (d : ℕ) (w : List ℕ) → has u d ≡ true

@@ -1,22 +1,20 @@
 -- `LabelIs` leaves one answer. Assumes nothing.
 use mathlib.Core.Path.{_≡_, sym, ap, ap₂, _∙_}
 use mathlib.Core.Logic.{_⊎_, inl, inr}
-use mathlib.Core.Bool.{true, false}
+use mathlib.Core.Bool.{true}
 use mathlib.Core.List.{List, [], _++_, append-nil, append-assoc}
 use Prim.Native.Nat.{ℕ, suc, _+_, _-_, _^_, _<_}
+use native.Mathlib.Nat.{lt-of-not-le}
 use native.Mathlib.Omega.{arith}
-use lib.Dec.{ltb}
 use lib.ListN.{length, take, drop, take-append-drop, length-drop}
 use lib.Seq.{take-add}
-use borrow.Author.Tests.{ltb-true, ltb-false}
 use Rattle.taxa.specs.Most.{most}
 use Rattle.taxa.specs.Sets.{has}
-use Rattle.taxa.proofs.Bools.{either}
 use Rattle.taxa.proofs.Sets.{has-below}
 use Rattle.text.specs.Lines.{decimal}
 use Rattle.labels.specs.declared.Label.{Label}
 use Rattle.labels.specs.declared.Label.the-variants.{Taxon, Bad}
-use Rattle.labels.specs.Labels.{Stop, Found, Missed, LabelIs}
+use Rattle.labels.specs.Between.{Stop, Found, Missed, LabelIs}
 use Rattle.labels.proofs.TextLaws.{cancel, label-settled}
 
 module _ (s : List ℕ) (at u : ℕ) where
@@ -73,13 +71,8 @@ module _ (s : List ℕ) (at u : ℕ) where
           ∙ ap (λ (t : List ℕ). take at s ++ t) (sym (append-nil (decimal d))))
 
   missed-same : (p q : ℕ) → Missed s at u p → Missed s at u q → p ≡ q
-  missed-same p q m n = go (either (ltb p q)) (either (ltb q p))
-    where
-      go : (ltb p q ≡ true) ⊎ (ltb p q ≡ false)
-          → (ltb q p ≡ true) ⊎ (ltb q p ≡ false) → p ≡ q
-      go (inl a) b = absurd (not-sooner p q m n (ltb-true p q a))
-      go (inr a) (inl b) = absurd (not-sooner q p n m (ltb-true q p b))
-      go (inr a) (inr b) = omega (arith, ltb-false p q a, ltb-false q p b)
+  missed-same p q m n =
+      omega (arith, lt-of-not-le (not-sooner p q m n), lt-of-not-le (not-sooner q p n m))
 
 -- one answer
 pub label-one : (s : List ℕ) (at u : ℕ) → u < 2 ^ most → (a b : Label)

@@ -15,7 +15,7 @@ use Rattle.taxa.proofs.Bools.{either}
 use Rattle.io.specs.Digits.{glyph}
 use Rattle.text.specs.Lines.{decimal}
 use Rattle.text.proofs.Widths.{fewest-decimal}
-use Rattle.labels.specs.Labels.{digit, Stop, Ends}
+use Rattle.labels.specs.Between.{digit, Stop, Ends}
 
 -- ---- lists
 

@@ -3,8 +3,7 @@ ghost use Prim.Native.Nat.{_<_};
 ghost use mathlib.Core.Path.{_≡_};
 ghost use lib.ListN.{length};
 ghost use Rattle.taxa.specs.Sets as sets;
-ghost use Rattle.labels.specs.Heads.{valueAt, begun};
-ghost use Rattle.labels.specs.Labels.{LabelIs};
+ghost use Rattle.labels.specs.Between.{valueAt, begun, LabelIs};
 
 // A label that was read, and the place after it; or the place of the byte at
 // which no label goes on.

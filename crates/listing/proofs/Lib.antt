@@ -1,4 +1,2 @@
-pub mod SavedLaws
-pub mod LineLaws
+pub mod FoundLaws
 pub mod ListsLaws
-pub mod PlainLines

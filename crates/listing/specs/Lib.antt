@@ -1,2 +1,2 @@
-pub mod Saved
 pub mod Listing
+pub mod Between

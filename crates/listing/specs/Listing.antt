@@ -1,37 +1,16 @@
--- One move's lines, and what the call that writes them promises.
+-- What the call that writes one move's lines says and promises.
 use Prim.Native.Nat.{ℕ, _+_}
-use mathlib.Core.Bool.{Bool, true, false}
-use mathlib.Core.List.{List, [], _∷_, _++_}
+use mathlib.Core.List.{List, _++_}
 use lib.ListN.{length}
 use Rattle.calls.specs.Calls.{Said, gives, refuses, judged, Call, tells}
 use Rattle.tree.specs.Editions.{Edition, narrow}
 use Rattle.tree.specs.Splits.{distances}
 use Rattle.tree.specs.Refusals.{treeChecksOf, partitionsChecks, roomChecks}
 use Rattle.moves.specs.Moves.{Move, moved, moveChecks}
-use Rattle.moves.specs.Plans.{planMoved}
-use Rattle.moves.specs.declared.Plan.{Plan}
-use Rattle.rules.specs.Each.{zeros}
-use Rattle.text.specs.Lines.{verdictLine, savedLine, placed}
-use Rattle.listing.specs.Saved.{savedOf}
+use Rattle.text.specs.Lines.{placed}
+use Rattle.move_lines.specs.MoveLines.{moveLines}
 use Rattle.listing.specs.declared.Lines.{Lines}
 use Rattle.listing.specs.declared.Lines.the-variants.{To, Refused}
-
--- The lines for partition p, p + 1, .. in the order sent: a distance for each.
-unfoldable pub verdictLines : ℕ → ℕ → List ℕ → List ℕ
-verdictLines m p [] = []
-verdictLines m p (d ∷ ds) = verdictLine m p d ++ verdictLines m (p + 1) ds
-
--- One move's lines, under the move number m: those for partition 1, 2, ..,
--- then `m saved s t`, where s is the number saved. The class t is that of how
--- many of the distances ds are 0.
-unfoldable pub linesWith : ℕ → List ℕ → ℕ → List ℕ
-linesWith m ds s =
-    verdictLines m 1 ds ++ savedLine m s (zeros ds) (length ds)
-
--- These lines for the partitions ys of the n taxa: the number saved is counted
--- from ys and the distances ds.
-abbrev pub moveLines : ℕ → ℕ → List ℕ → List ℕ → List ℕ
-moveLines n m ys ds = linesWith m ds (savedOf n ys ds)
 
 -- The lines that a call states the number k for.
 abbrev pub linesOf : ℕ → List ℕ → List ℕ → Move → ℕ → List ℕ
@@ -43,7 +22,8 @@ abbrev pub linesSaidOf : Edition → ℕ → List ℕ → List ℕ → Move → 
 linesSaidOf E n b ys m k room place =
     let t = E .read b in
     let ls = linesOf n t ys m k in
-    judged (treeChecksOf E n b ++ partitionsChecks n ys ++ moveChecks n t m ++ roomChecks (place + length ls) room) ls
+    judged (treeChecksOf E n b ++ partitionsChecks n ys ++ moveChecks n t m ++ roomChecks
+    (place + length ls) room) ls
 
 abbrev pub linesSaid : ℕ → List ℕ → List ℕ → Move → ℕ → ℕ → ℕ → Said (List ℕ)
 linesSaid = linesSaidOf narrow
@@ -74,20 +54,3 @@ abbrev pub Lists : ℕ → List ℕ → Move → ℕ → ℕ → Page → Lines 
 Lists n ys m k place p r p′ =
     let said = linesSaid n (p .table) ys m k (length (p .out)) place in
     Call (tells (placeAfter place)) (movedWith n m place) said p (linesSays r) p′
-
--- ---- between the functions
-
--- The promise of these lines where only 11 is left.
-abbrev pub Puts : List ℕ → ℕ → List ℕ → Lines → List ℕ → Type 0
-Puts ls place out r out′ =
-    let said = judged (roomChecks (placeAfter place ls) (length out)) ls in
-    Call (tells (placeAfter place)) (λ w o. placed o place w) said out (linesSays r) out′
-
--- Lines were written.
-abbrev pub written : Lines → Bool
-written (To e) = true
-written (Refused r) = false
-
--- Where lines end, the rows of the plan p are rewritten.
-abbrev pub rowsMoved : ℕ → Plan → ℕ → List ℕ → List ℕ
-rowsMoved n p e t = planMoved n t p

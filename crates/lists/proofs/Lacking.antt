@@ -20,11 +20,13 @@ pub mem-end : (x : ℕ) (b : List ℕ) (j : ℕ) → length b ≤ j → mem x (d
 unfolding mem
 mem-end x b j h = rw (drop-of-length-le b h)
 
-pub mem-here : (x : ℕ) (b : List ℕ) (j : ℕ) → j < length b → getD b j 0 ≡ x → mem x (drop j b) ≡ true
+pub mem-here : (x : ℕ) (b : List ℕ) (j : ℕ) → j < length b → getD b j 0 ≡ x
+    → mem x (drop j b) ≡ true
 unfolding mem
 mem-here x b j h e = rw (drop-cons b j 0 h, eq-eqb x (getD b j 0) (sym e))
 
-pub mem-later : (x : ℕ) (b : List ℕ) (j : ℕ) → j < length b → (getD b j 0 ≡ x → ⊥) → mem x (drop j b) ≡ mem x (drop (j + 1) b)
+pub mem-later : (x : ℕ) (b : List ℕ) (j : ℕ) → j < length b → (getD b j 0 ≡ x → ⊥)
+    → mem x (drop j b) ≡ mem x (drop (j + 1) b)
 unfolding mem
 mem-later x b j h e = rw (add-one, drop-cons b j 0 h, ne-eqb x (getD b j 0) (λ q. e (sym q)))
 
@@ -33,11 +35,13 @@ pub first-end : (a b : List ℕ) (i : ℕ) → length a ≤ i → firstLack (dro
 unfolding firstLack
 first-end a b i h = rw (drop-of-length-le a h)
 
-pub first-here : (a b : List ℕ) (i : ℕ) → i < length a → mem (getD a i 0) b ≡ false → firstLack (drop i a) b ≡ getD a i 0
+pub first-here : (a b : List ℕ) (i : ℕ) → i < length a → mem (getD a i 0) b ≡ false
+    → firstLack (drop i a) b ≡ getD a i 0
 unfolding firstLack
 first-here a b i h e = rw (drop-cons a i 0 h, e)
 
-pub first-later : (a b : List ℕ) (i : ℕ) → i < length a → mem (getD a i 0) b ≡ true → firstLack (drop i a) b ≡ firstLack (drop (i + 1) a) b
+pub first-later : (a b : List ℕ) (i : ℕ) → i < length a → mem (getD a i 0) b ≡ true
+    → firstLack (drop i a) b ≡ firstLack (drop (i + 1) a) b
 unfolding firstLack
 first-later a b i h e = rw (add-one, drop-cons a i 0 h, e)
 
@@ -57,7 +61,8 @@ over-all y x xs l h z p = go (or-cases (eqb z x) (mem z xs) p)
 
 over-drop : (y : ℕ) (l : List ℕ) (i : ℕ) → i < length l → Asc l → y < getD l i 0 → Over y (drop i l)
 over-drop y l i h asc below =
-    rw (drop-cons l i 0 h) (over-all y (getD l i 0) (drop (suc i) l) below ((rw (drop-cons l i 0 h) at (asc-drop i l asc)) .0))
+    rw (drop-cons l i 0 h) (over-all y (getD l i 0) (drop (suc i) l) below
+    ((rw (drop-cons l i 0 h) at (asc-drop i l asc)) .0))
 
 over-not : (x : ℕ) (l : List ℕ) → Over x l → mem x l ≡ false
 over-not x l h = go (mem x l) refl
@@ -72,7 +77,10 @@ unfolding lacks mem
 lacks-skip [] y ys h = refl
 lacks-skip (x ∷ xs) y ys h =
     let less : y < x = h x (ap (λ (b : Bool). b || mem x xs) (eq-eqb x x refl)) in
-    rw (ne-eqb x y (λ q. omega arith), lacks-skip xs y ys (λ z p. h z (or-right (eqb z x) (mem z xs) p)))
+    rw (
+      ne-eqb x y (λ q. omega arith),
+      lacks-skip xs y ys (λ z p. h z (or-right (eqb z x) (mem z xs) p)),
+    )
 
 module _ (a b : List ℕ) (i j : ℕ) where
   pub lacks-end : length a ≤ i → lacks (drop i a) (drop j b) ≡ 0
@@ -83,13 +91,22 @@ module _ (a b : List ℕ) (i j : ℕ) where
   lacks-rest h = rw (drop-of-length-le b h) (lacks-nil (drop i a) ∙ length-drop i a)
 
   module _ (in-a : i < length a) (in-b : j < length b) where
-    pub lacks-pass : Asc a → getD b j 0 < getD a i 0 → lacks (drop i a) (drop j b) ≡ lacks (drop i a) (drop (j + 1) b)
-    lacks-pass asc h = rw (add-one, drop-cons b j 0 in-b) (lacks-skip (drop i a) (getD b j 0) (drop (suc j) b) (over-drop (getD b j 0) a i in-a asc h))
+    pub lacks-pass : Asc a → getD b j 0 < getD a i 0
+        → lacks (drop i a) (drop j b) ≡ lacks (drop i a) (drop (j + 1) b)
+    lacks-pass asc h = rw (add-one, drop-cons b j 0 in-b)
+        (lacks-skip (drop i a) (getD b j 0) (drop (suc j) b)
+        (over-drop (getD b j 0) a i in-a asc h))
 
-    pub lacks-both : getD b j 0 ≡ getD a i 0 → lacks (drop i a) (drop j b) ≡ lacks (drop (i + 1) a) (drop j b)
+    pub lacks-both : getD b j 0 ≡ getD a i 0
+        → lacks (drop i a) (drop j b) ≡ lacks (drop (i + 1) a) (drop j b)
     unfolding lacks
     lacks-both e = rw (add-one, drop-cons a i 0 in-a, mem-here (getD a i 0) b j in-b e)
 
-    pub lacks-lone : Asc b → getD a i 0 < getD b j 0 → lacks (drop i a) (drop j b) ≡ suc (lacks (drop (i + 1) a) (drop j b))
+    pub lacks-lone : Asc b → getD a i 0 < getD b j 0
+        → lacks (drop i a) (drop j b) ≡ suc (lacks (drop (i + 1) a) (drop j b))
     unfolding lacks
-    lacks-lone asc h = rw (add-one, drop-cons a i 0 in-a, over-not (getD a i 0) (drop j b) (over-drop (getD a i 0) b j in-b asc h))
+    lacks-lone asc h = rw (
+      add-one,
+      drop-cons a i 0 in-a,
+      over-not (getD a i 0) (drop j b) (over-drop (getD a i 0) b j in-b asc h),
+    )

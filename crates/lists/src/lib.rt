@@ -5,8 +5,8 @@ ghost use Prim.Native.Nat.{_<_, _≤_};
 ghost use lib.ListN.{length, take};
 ghost use Rattle.tree.specs.Lists as lists_spec;
 ghost use Rattle.tree.specs.Lists.{Asc};
-ghost use Rattle.lists.specs.Listed.{RoomFor, Listed};
-ghost use Rattle.lists.specs.Places.{lead, gapped};
+ghost use Rattle.lists.specs.Between.{RoomFor, lead, gapped};
+ghost use Rattle.calls.specs.Between.{Wrote};
 
 // How many numbers at the start of the first len are below x.
 fn place(out: &[u64], len: usize, x: u64) -> usize
@@ -42,7 +42,7 @@ pub fn insert(out: &mut [u64], len: usize, x: u64) -> usize
     requires { let o = now out in ⌜ (len ≤ length o) × (RoomFor (lists_spec.insert x (take len o)) o) ⌝ }
     ensures { λ r.
         let o = now (out .entry) in
-        ⌜ Listed (lists_spec.insert x (take len o)) o r (now (out .exit)) ⌝ }
+        ⌜ Wrote length (lists_spec.insert x (take len o)) o r (now (out .exit)) ⌝ }
 {
     let i = place(out, len, x);
     if i < len {

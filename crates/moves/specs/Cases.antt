@@ -5,8 +5,7 @@ use mathlib.Core.Bool.{Bool, true, _&&_}
 use mathlib.Core.List.{List, [], _∷_}
 use lib.Dec.{eqb}
 use Rattle.tree.specs.Splits.{dist}
-use Rattle.moves.specs.Moves.{Move, moved, kindRight, rowsRight, fits}
-use Rattle.moves.specs.Moves.{anyMoves}
+use Rattle.moves.specs.Moves.{Move, moved, kindRight, rowsRight, fits, anyMoves}
 use Rattle.moves.specs.Groups.{moveRule}
 
 -- Tree S, of 6 taxa: rows 0-6, 1-6, 6-7, 2-7, 7-8, 3-8, 8-9, 4-9, 5-9.

@@ -49,7 +49,9 @@ groups n t a v b = pick (ltb v n) (2 ^ v ∷ []) (walk n t b (nodes n) v a)
 -- An end that stays has two groups, one beyond each row, or the single taxon.
 unfoldable pub stayed : ℕ → List ℕ → ℕ → ℕ → List ℕ
 stayed n t a v =
-    pick (ltb v n) (2 ^ v ∷ []) (beyond n t v (getD (others t a v (rows n)) 0 0) ∷ beyond n t v (getD (others t a v (rows n)) 1 0) ∷ [])
+    pick (ltb v n) (2 ^ v ∷ [])
+    (beyond n t v (getD (others t a v (rows n)) 0 0) ∷ beyond n t v
+    (getD (others t a v (rows n)) 1 0) ∷ [])
 
 -- How many groups meet y.
 unfoldable pub met : ℕ → List ℕ → ℕ
@@ -80,4 +82,5 @@ tbrRule n t a b c y =
 -- The papers' distance of a move over y.
 unfoldable pub moveRule : ℕ → List ℕ → Move → ℕ → ℕ
 moveRule n t m y =
-    byKind m (nniRule n t (m .first) y) (sprRule n t (m .first) (m .second) y) (tbrRule n t (m .first) (m .second) (m .third) y) 0
+    byKind m (nniRule n t (m .first) y) (sprRule n t (m .first) (m .second) y)
+    (tbrRule n t (m .first) (m .second) (m .third) y) 0

@@ -45,7 +45,8 @@ nni t e x y =
 unfoldable pub nniFits : ℕ → List ℕ → ℕ → ℕ → ℕ → Bool
 nniFits n t e x y =
     leb n (lo t e) && leb n (hi t e) && not (eqb x e) && not (eqb y e)
-    && (touches t x (lo t e) && touches t y (hi t e) || touches t x (hi t e) && touches t y (lo t e))
+    && (touches t x (lo t e) && touches t y (hi t e) || touches t x (hi t e) && touches t y
+    (lo t e))
 
 -- ---- kind 2, SPR: a, b, 0
 
@@ -98,7 +99,8 @@ atBoth t x u y v = touches t x u && touches t y v
 -- The table after a move.
 unfoldable pub moved : ℕ → List ℕ → Move → List ℕ
 moved n t m =
-    byKind m (nni t (m .first) (m .second) (m .third)) (spr n t (m .first) (m .second)) (tbr n t (m .first) (m .second) (m .third)) t
+    byKind m (nni t (m .first) (m .second) (m .third)) (spr n t (m .first) (m .second))
+    (tbr n t (m .first) (m .second) (m .third)) t
 
 -- Kind 1 to 3, and the last row number of an SPR is 0.
 unfoldable pub kindRight : Move → Bool
@@ -120,14 +122,16 @@ rowsRight n m = allRows n (usedRows m)
 unfoldable pub fits : ℕ → List ℕ → Move → Bool
 fits n t m =
     let a = m .first in
-    byKind m (nniFits n t a (m .second) (m .third)) (not (eqb a (m .second))) (targets n t a (m .second) (m .third)) false
+    byKind m (nniFits n t a (m .second) (m .third)) (not (eqb a (m .second)))
+    (targets n t a (m .second) (m .third)) false
 
 -- Some end moves: in an SPR b does not touch the end p; in a TBR not both
 -- targets touch their ends of a.
 unfoldable pub anyMoves : ℕ → List ℕ → Move → Bool
 anyMoves n t m =
     let a = m .first in
-    byKind m true (not (touches t (m .second) (endWith n t a (m .second)))) (not (atBoth t (m .second) (lo t a) (m .third) (hi t a))) false
+    byKind m true (not (touches t (m .second) (endWith n t a (m .second))))
+    (not (atBoth t (m .second) (lo t a) (m .third) (hi t a))) false
 
 -- 7 to 10.
 abbrev pub moveChecks : ℕ → List ℕ → Move → List Check

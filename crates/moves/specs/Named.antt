@@ -21,4 +21,5 @@ stayNamed n t p a b = pick (touches t b p) [] (endNamed n t p a b)
 unfoldable pub named : ℕ → List ℕ → Move → List ℕ
 named n t m =
     let a = m .first in
-    byKind m (m .second ∷ m .third ∷ []) (endNamed n t (endWith n t a (m .second)) a (m .second)) (stayNamed n t (lo t a) a (m .second) ++ stayNamed n t (hi t a) a (m .third)) []
+    byKind m (m .second ∷ m .third ∷ []) (endNamed n t (endWith n t a (m .second)) a (m .second))
+    (stayNamed n t (lo t a) a (m .second) ++ stayNamed n t (hi t a) a (m .third)) []

@@ -6,8 +6,7 @@ use lib.ListN.{length}
 use Rattle.calls.specs.Calls.{Said, judged}
 use Rattle.tree.specs.Editions.{Edition, narrow}
 use Rattle.tree.specs.Splits.{dist, distances}
-use Rattle.tree.specs.Refusals.{treeChecksOf, partitionChecks}
-use Rattle.tree.specs.Refusals.{partitionsChecks, roomChecks}
+use Rattle.tree.specs.Refusals.{treeChecksOf, partitionChecks, partitionsChecks, roomChecks}
 use Rattle.moves.specs.Moves.{Move, moved, moveChecks}
 
 -- ---- in any edition
@@ -22,14 +21,16 @@ movedSaidOf E n b m =
 abbrev pub judgedSaidOf : Edition → ℕ → List ℕ → List ℕ → Move → ℕ → Said (List ℕ)
 judgedSaidOf E n b ys m room =
     let t = E .read b in
-    judged (treeChecksOf E n b ++ partitionsChecks n ys ++ moveChecks n t m ++ roomChecks (length ys) room)
+    judged (treeChecksOf E n b ++ partitionsChecks n ys ++ moveChecks n t m ++ roomChecks
+    (length ys) room)
     (distances n t (moved n t m) ys)
 
 -- A move judged for one partition: its distance. Refusals 1 to 10.
 abbrev pub judgedOneSaidOf : Edition → ℕ → List ℕ → ℕ → Move → Said ℕ
 judgedOneSaidOf E n b y m =
     let t = E .read b in
-    judged (treeChecksOf E n b ++ partitionChecks n y ++ moveChecks n t m) (dist n t (moved n t m) y)
+    judged (treeChecksOf E n b ++ partitionChecks n y ++ moveChecks n t m)
+    (dist n t (moved n t m) y)
 
 -- ---- in the narrow edition
 abbrev pub movedSaid : ℕ → List ℕ → Move → Said (List ℕ)

@@ -17,8 +17,8 @@ use Rattle.tree.specs.Tree.{lo, hi, rows, nodes, touches, rowsAt, others, count
 use Rattle.tree.proofs.RowCounts.{count-mono, count-yes, pair}
 use Rattle.tree.proofs.RowsAt.{rows-at-length, without, others-without}
 use Rattle.tree.proofs.Joins.{joins-touch, touch-node}
-use Rattle.table.specs.Rowed.{Rowed}
-use Rattle.near.specs.Near.{free, hooked, Near, otherFirst, otherSecond, OtherTwo}
+use Rattle.table.specs.Between.{Rowed}
+use Rattle.near.specs.Between.{free, hooked, Near, otherFirst, otherSecond, OtherTwo}
 
 -- ---- storing a row
 module _ (a : List ℕ) (v r : ℕ) where
@@ -26,16 +26,19 @@ module _ (a : List ℕ) (v r : ℕ) where
   unfolding hooked
   hook-0 h = rw (eq-eqb (getD a (3 * v) 0) free h)
 
-  pub hook-1 : (getD a (3 * v) 0 ≡ free → ⊥) → getD a (3 * v + 1) 0 ≡ free → set a (3 * v + 1) r ≡ hooked a v r
+  pub hook-1 : (getD a (3 * v) 0 ≡ free → ⊥) → getD a (3 * v + 1) 0 ≡ free
+      → set a (3 * v + 1) r ≡ hooked a v r
   unfolding hooked
   hook-1 d h = rw (ne-eqb (getD a (3 * v) 0) free d, eq-eqb (getD a (3 * v + 1) 0) free h)
 
-  pub hook-2 : (getD a (3 * v) 0 ≡ free → ⊥) → (getD a (3 * v + 1) 0 ≡ free → ⊥) → set a (3 * v + 2) r ≡ hooked a v r
+  pub hook-2 : (getD a (3 * v) 0 ≡ free → ⊥) → (getD a (3 * v + 1) 0 ≡ free → ⊥)
+      → set a (3 * v + 2) r ≡ hooked a v r
   unfolding hooked
   hook-2 d h = rw (ne-eqb (getD a (3 * v) 0) free d, ne-eqb (getD a (3 * v + 1) 0) free h)
 
 -- ---- of the three rows at a node, those that are not e
-module _ {a : List ℕ} {v x y z : ℕ} (e : ℕ) (hx : x ≡ getD a (3 * v + 0) 0) (hy : y ≡ getD a (3 * v + 1) 0)
+module _ {a : List ℕ} {v x y z : ℕ} (e : ℕ) (hx : x ≡ getD a (3 * v + 0) 0)
+    (hy : y ≡ getD a (3 * v + 1) 0)
     (hz : z ≡ getD a (3 * v + 2) 0) where
   pub not-first : x ≡ e → OtherTwo e a v y z
   not-first d =
@@ -55,7 +58,8 @@ module _ {a : List ℕ} {v x y z : ℕ} (e : ℕ) (hx : x ≡ getD a (3 * v + 0)
       record { first = rw h hx; second = rw (h, k) hy }
 
 -- ---- the list of the rows at a node, one row more
-at-yes : (t : List ℕ) (v k : ℕ) → touches t k v ≡ true → rowsAt t v (k + 1) ≡ rowsAt t v k ++ (k ∷ [])
+at-yes : (t : List ℕ) (v k : ℕ) → touches t k v ≡ true
+    → rowsAt t v (k + 1) ≡ rowsAt t v k ++ (k ∷ [])
 unfolding rowsAt
 at-yes t v k h = rw (add-one k, h)
 
@@ -72,14 +76,17 @@ unfolding Small
 small-append [] x h p zero l = p
 small-append [] x h p (suc j) l = absurd (omega arith)
 small-append (y ∷ ys) x h p zero l = h 0 (omega arith)
-small-append (y ∷ ys) x h p (suc j) l = small-append ys x (λ i m. h (suc i) (omega arith)) p j (omega arith)
+small-append (y ∷ ys) x h p (suc j) l =
+    small-append ys x (λ i m. h (suc i) (omega arith)) p j (omega arith)
 
 small-at : (t : List ℕ) (v k : ℕ) → k ≤ free → Small (rowsAt t v k)
 unfolding rowsAt Small
 small-at t v zero h = λ j l. absurd (omega arith)
 small-at t v (suc k) h = go (small-at t v k (omega arith)) (touches t k v)
   where
-    go : ((j : ℕ) → j < length (rowsAt t v k) → getD (rowsAt t v k) j 0 < free) → (b : Bool) → (j : ℕ) → j < length (pick b (rowsAt t v k ++ (k ∷ [])) (rowsAt t v k)) → getD (pick b (rowsAt t v k ++ (k ∷ [])) (rowsAt t v k)) j 0 < free
+    go : ((j : ℕ) → j < length (rowsAt t v k) → getD (rowsAt t v k) j 0 < free) → (b : Bool)
+        → (j : ℕ) → j < length (pick b (rowsAt t v k ++ (k ∷ [])) (rowsAt t v k))
+        → getD (pick b (rowsAt t v k ++ (k ∷ [])) (rowsAt t v k)) j 0 < free
     go ih true = small-append (rowsAt t v k) k ih (omega arith)
     go ih false = ih
 
@@ -93,12 +100,14 @@ pub length-hooked : (a : List ℕ) (v r : ℕ) → length (hooked a v r) ≡ len
 unfolding hooked
 length-hooked a v r = go (eqb (getD a (3 * v) 0) free) (eqb (getD a (3 * v + 1) 0) free)
   where
-    go : (p q : Bool) → length (pick p (set a (3 * v) r) (pick q (set a (3 * v + 1) r) (set a (3 * v + 2) r))) ≡ length a
+    go : (p q : Bool) → length
+        (pick p (set a (3 * v) r) (pick q (set a (3 * v + 1) r) (set a (3 * v + 2) r))) ≡ length a
     go true q = length-set a (3 * v) r
     go false true = length-set a (3 * v + 1) r
     go false false = length-set a (3 * v + 2) r
 
-slots-set : (a l : List ℕ) (w i r : ℕ) → (3 * w ≡ i → ⊥) → (3 * w + 1 ≡ i → ⊥) → (3 * w + 2 ≡ i → ⊥) → Slots a w l → Slots (set a i r) w l
+slots-set : (a l : List ℕ) (w i r : ℕ) → (3 * w ≡ i → ⊥) → (3 * w + 1 ≡ i → ⊥) → (3 * w + 2 ≡ i → ⊥)
+    → Slots a w l → Slots (set a i r) w l
 slots-set a l w i r d0 d1 d2 S = record {
   s0 = getD-set-other a i (3 * w) r 0 d0 ∙ S .s0;
   s1 = getD-set-other a i (3 * w + 1) r 0 d1 ∙ S .s1;
@@ -109,12 +118,17 @@ slots-other : (a l : List ℕ) (w v r : ℕ) → (w ≡ v → ⊥) → Slots a w
 unfolding hooked
 slots-other a l w v r d S = go (eqb (getD a (3 * v) 0) free) (eqb (getD a (3 * v + 1) 0) free)
   where
-    go : (p q : Bool) → Slots (pick p (set a (3 * v) r) (pick q (set a (3 * v + 1) r) (set a (3 * v + 2) r))) w l
-    go true q = slots-set a l w (3 * v) r (λ x. d (omega arith)) (λ x. omega arith) (λ x. omega arith) S
-    go false true = slots-set a l w (3 * v + 1) r (λ x. omega arith) (λ x. d (omega arith)) (λ x. omega arith) S
-    go false false = slots-set a l w (3 * v + 2) r (λ x. omega arith) (λ x. omega arith) (λ x. d (omega arith)) S
+    go : (p q : Bool) → Slots
+        (pick p (set a (3 * v) r) (pick q (set a (3 * v + 1) r) (set a (3 * v + 2) r))) w l
+    go true q = slots-set a l w (3 * v) r (λ x. d (omega arith)) (λ x. omega arith)
+        (λ x. omega arith) S
+    go false true = slots-set a l w (3 * v + 1) r (λ x. omega arith) (λ x. d (omega arith))
+        (λ x. omega arith) S
+    go false false = slots-set a l w (3 * v + 2) r (λ x. omega arith) (λ x. omega arith)
+        (λ x. d (omega arith)) S
 
-slots-here : (a l : List ℕ) (v r : ℕ) → 3 * v + 2 < length a → length l ≤ 2 → Small l → Slots a v l → Slots (hooked a v r) v (l ++ (r ∷ []))
+slots-here : (a l : List ℕ) (v r : ℕ) → 3 * v + 2 < length a → length l ≤ 2 → Small l → Slots a v l
+    → Slots (hooked a v r) v (l ++ (r ∷ []))
 unfolding hooked Small
 slots-here a [] v r room two small S =
     rw (eq-eqb (getD a (3 * v) 0) free (S .s0)) (record {
@@ -123,13 +137,20 @@ slots-here a [] v r room two small S =
       s2 = getD-set-other a (3 * v) (3 * v + 2) r 0 (omega arith) ∙ S .s2;
     })
 slots-here a (x ∷ []) v r room two small S =
-    rw (ne-eqb (getD a (3 * v) 0) free (λ e. omega (arith, S .s0, small 0 (omega arith))), eq-eqb (getD a (3 * v + 1) 0) free (S .s1)) (record {
+    rw (
+      ne-eqb (getD a (3 * v) 0) free (λ e. omega (arith, S .s0, small 0 (omega arith))),
+      eq-eqb (getD a (3 * v + 1) 0) free (S .s1),
+    ) (record {
       s0 = getD-set-other a (3 * v + 1) (3 * v) r 0 (omega arith) ∙ S .s0;
       s1 = getD-set-same a (3 * v + 1) r 0 (omega arith);
       s2 = getD-set-other a (3 * v + 1) (3 * v + 2) r 0 (omega arith) ∙ S .s2;
     })
 slots-here a (x ∷ y ∷ []) v r room two small S =
-    rw (ne-eqb (getD a (3 * v) 0) free (λ e. omega (arith, S .s0, small 0 (omega arith))), ne-eqb (getD a (3 * v + 1) 0) free (λ e. omega (arith, S .s1, small 1 (omega arith)))) (record {
+    rw (
+      ne-eqb (getD a (3 * v) 0) free (λ e. omega (arith, S .s0, small 0 (omega arith))),
+      ne-eqb (getD a (3 * v + 1) 0) free (λ e. omega (arith, S .s1, small 1 (omega arith))),
+    )
+    (record {
       s0 = getD-set-other a (3 * v + 2) (3 * v) r 0 (omega arith) ∙ S .s0;
       s1 = getD-set-other a (3 * v + 2) (3 * v + 1) r 0 (omega arith) ∙ S .s1;
       s2 = getD-set-same a (3 * v + 2) r 0 (omega arith);
@@ -158,32 +179,48 @@ module _ (n : ℕ) (t : List ℕ) (R : Rowed n t) (i : ℕ) (li : i < rows n) wh
 
   two-at-most : (v : ℕ) → v < nodes n → touches t i v ≡ true → length (rowsAt t v i) ≤ 2
   two-at-most v l h =
-      omega (arith, rows-at-length t v i, count-yes (λ r. touches t r v) i h, count-mono (λ r. touches t r v) (suc i) (rows n) li, at-most v l)
+      omega (
+        arith,
+        rows-at-length t v i,
+        count-yes (λ r. touches t r v) i h,
+        count-mono (λ r. touches t r v) (suc i) (rows n) li,
+        at-most v l,
+      )
 
-  put-yes : (a : List ℕ) (v : ℕ) → length a ≡ 3 * nodes most → v < nodes n → touches t i v ≡ true → Slots a v (rowsAt t v i) → Slots (hooked a v i) v (rowsAt t v (i + 1))
+  put-yes : (a : List ℕ) (v : ℕ) → length a ≡ 3 * nodes most → v < nodes n → touches t i v ≡ true
+      → Slots a v (rowsAt t v i) → Slots (hooked a v i) v (rowsAt t v (i + 1))
   put-yes a v room l h S =
-      rw (at-yes t v i h) (slots-here a (rowsAt t v i) v i (omega (arith, R .ordered .few)) (two-at-most v l h) (small-at t v i (omega (arith, R .ordered .few))) S)
+      rw (at-yes t v i h) (slots-here a (rowsAt t v i) v i (omega (arith, R .ordered .few))
+      (two-at-most v l h) (small-at t v i (omega (arith, R .ordered .few))) S)
 
-  pub upto-more : (a : List ℕ) (u v r : ℕ) → length a ≡ 3 * nodes most → u ≡ lo t i → v ≡ hi t i → r ≡ i → Upto t a (nodes n) i → Upto t (hooked (hooked a u r) v r) (nodes n) (i + 1)
-  upto-more a u v r room hu hv hr S w l = rw (hr, hu, hv) (go (either (eqb w (lo t i))) (either (eqb w (hi t i))))
+  pub upto-more : (a : List ℕ) (u v r : ℕ) → length a ≡ 3 * nodes most → u ≡ lo t i → v ≡ hi t i
+      → r ≡ i → Upto t a (nodes n) i → Upto t (hooked (hooked a u r) v r) (nodes n) (i + 1)
+  upto-more a u v r room hu hv hr S w l =
+      rw (hr, hu, hv) (go (either (eqb w (lo t i))) (either (eqb w (hi t i))))
     where
       ord : (lo t i < hi t i) × (hi t i < nodes n)
       ord = R .ordered .order i li
 
-      go : (eqb w (lo t i) ≡ true) ⊎ (eqb w (lo t i) ≡ false) → (eqb w (hi t i) ≡ true) ⊎ (eqb w (hi t i) ≡ false) → Slots (hooked (hooked a (lo t i) i) (hi t i) i) w (rowsAt t w (i + 1))
+      go : (eqb w (lo t i) ≡ true) ⊎ (eqb w (lo t i) ≡ false)
+          → (eqb w (hi t i) ≡ true) ⊎ (eqb w (hi t i) ≡ false)
+          → Slots (hooked (hooked a (lo t i) i) (hi t i) i) w (rowsAt t w (i + 1))
       go (inl x) y =
           let e : w ≡ lo t i = eqb-true w (lo t i) x in
           let h : touches t i w ≡ true = joins-touch t i w (hi t i) (inl (sym e, refl)) in
-          slots-other (hooked a (lo t i) i) (rowsAt t w (i + 1)) w (hi t i) i (λ d. omega (arith, ord .0))
-          (subst (λ (z : ℕ). Slots (hooked a z i) w (rowsAt t w (i + 1))) e (put-yes a w room l h (S w l)))
+          slots-other (hooked a (lo t i) i) (rowsAt t w (i + 1)) w (hi t i) i
+          (λ d. omega (arith, ord .0))
+          (subst (λ (z : ℕ). Slots (hooked a z i) w (rowsAt t w (i + 1))) e
+          (put-yes a w room l h (S w l)))
       go (inr x) (inl y) =
           let e : w ≡ hi t i = eqb-true w (hi t i) y in
           let h : touches t i w ≡ true = joins-touch t i w (lo t i) (inr (refl, sym e)) in
           subst (λ (z : ℕ). Slots (hooked (hooked a (lo t i) i) z i) w (rowsAt t w (i + 1))) e
-          (put-yes (hooked a (lo t i) i) w (length-hooked a (lo t i) i ∙ room) l h (slots-other a (rowsAt t w i) w (lo t i) i (eqb-false w (lo t i) x) (S w l)))
+          (put-yes (hooked a (lo t i) i) w (length-hooked a (lo t i) i ∙ room) l h
+          (slots-other a (rowsAt t w i) w (lo t i) i (eqb-false w (lo t i) x) (S w l)))
       go (inr x) (inr y) =
           let h : touches t i w ≡ false
-          = ap₂ _||_ (ne-eqb (lo t i) w (λ d. eqb-false w (lo t i) x (sym d))) (ne-eqb (hi t i) w (λ d. eqb-false w (hi t i) y (sym d))) in
+          = ap₂ _||_ (ne-eqb (lo t i) w (λ d. eqb-false w (lo t i) x (sym d)))
+          (ne-eqb (hi t i) w (λ d. eqb-false w (hi t i) y (sym d))) in
           rw (at-no t w i h)
           (slots-other (hooked a (lo t i) i) (rowsAt t w i) w (hi t i) i (eqb-false w (hi t i) y)
           (slots-other a (rowsAt t w i) w (lo t i) i (eqb-false w (lo t i) x) (S w l)))
@@ -193,18 +230,23 @@ one-of [] a v h S = absurd (omega arith)
 one-of (x ∷ []) a v h S = let e : 3 * v + 0 ≡ 3 * v = omega arith in rw (e, S .s0)
 one-of (x ∷ y ∷ l) a v h S = absurd (omega arith)
 
-three-of : (l a : List ℕ) (v : ℕ) → length l ≡ 3 → Slots a v l → l ≡ getD a (3 * v + 0) 0 ∷ getD a (3 * v + 1) 0 ∷ getD a (3 * v + 2) 0 ∷ []
+three-of : (l a : List ℕ) (v : ℕ) → length l ≡ 3 → Slots a v l
+    → l ≡ getD a (3 * v + 0) 0 ∷ getD a (3 * v + 1) 0 ∷ getD a (3 * v + 2) 0 ∷ []
 three-of [] a v h S = absurd (omega arith)
 three-of (x ∷ []) a v h S = absurd (omega arith)
 three-of (x ∷ y ∷ []) a v h S = absurd (omega arith)
-three-of (x ∷ y ∷ z ∷ []) a v h S = let e : 3 * v + 0 ≡ 3 * v = omega arith in rw (e, S .s0, S .s1, S .s2)
+three-of (x ∷ y ∷ z ∷ []) a v h S = let e : 3 * v + 0 ≡ 3 * v = omega arith in
+    rw (e, S .s0, S .s1, S .s2)
 three-of (x ∷ y ∷ z ∷ w ∷ l) a v h S = absurd (omega arith)
 
-pub near-of : (n : ℕ) (t a : List ℕ) → Rowed n t → length a ≡ 3 * nodes most → Upto t a (nodes n) (rows n) → Near n t a
+pub near-of : (n : ℕ) (t a : List ℕ) → Rowed n t → length a ≡ 3 * nodes most
+    → Upto t a (nodes n) (rows n) → Near n t a
 near-of n t a R room S = record {
   room = room;
-  one = λ v l. one-of (rowsAt t v (rows n)) a v (rows-at-length t v (rows n) ∙ R .leaf v l) (S v (omega (arith, R .ordered .big)));
-  three = λ v i l. three-of (rowsAt t v (rows n)) a v (rows-at-length t v (rows n) ∙ R .inner v i l) (S v l);
+  one = λ v l. one-of (rowsAt t v (rows n)) a v (rows-at-length t v (rows n) ∙ R .leaf v l)
+      (S v (omega (arith, R .ordered .big)));
+  three = λ v i l. three-of (rowsAt t v (rows n)) a v (rows-at-length t v (rows n) ∙ R .inner v i l)
+      (S v l);
 }
 
 -- ---- the two others of three
@@ -216,8 +258,10 @@ unfolding without
 two-left e x y z = go (eqb x e) (eqb y e) (eqb z e)
   where
     go : (p q r : Bool)
-        → length (pick p (pick q (pick r [] (z ∷ [])) (y ∷ pick r [] (z ∷ []))) (x ∷ pick q (pick r [] (z ∷ [])) (y ∷ pick r [] (z ∷ [])))) ≡ 2
-        → pick p (pick q (pick r [] (z ∷ [])) (y ∷ pick r [] (z ∷ []))) (x ∷ pick q (pick r [] (z ∷ [])) (y ∷ pick r [] (z ∷ [])))
+        → length (pick p (pick q (pick r [] (z ∷ [])) (y ∷ pick r [] (z ∷ [])))
+        (x ∷ pick q (pick r [] (z ∷ [])) (y ∷ pick r [] (z ∷ [])))) ≡ 2
+        → pick p (pick q (pick r [] (z ∷ [])) (y ∷ pick r [] (z ∷ [])))
+        (x ∷ pick q (pick r [] (z ∷ [])) (y ∷ pick r [] (z ∷ [])))
         ≡ pick p y x ∷ pick p z (pick q z y) ∷ []
     go true true true l = absurd (omega arith)
     go true true false l = absurd (omega arith)
@@ -228,11 +272,14 @@ two-left e x y z = go (eqb x e) (eqb y e) (eqb z e)
     go false false true l = refl
     go false false false l = absurd (omega arith)
 
-pub near-others : (n : ℕ) (t a : List ℕ) (e v : ℕ) → Valid n t → Near n t a → e < rows n → touches t e v ≡ true → n ≤ v
+pub near-others : (n : ℕ) (t a : List ℕ) (e v : ℕ) → Valid n t → Near n t a → e < rows n
+    → touches t e v ≡ true → n ≤ v
     → others t e v (rows n) ≡ otherFirst e a v ∷ otherSecond e a v ∷ []
 near-others n t a e v vt N le te inner =
     let l : v < nodes n = touch-node n t e vt le v te in
-    let all : others t e v (rows n) ≡ without e (getD a (3 * v + 0) 0 ∷ getD a (3 * v + 1) 0 ∷ getD a (3 * v + 2) 0 ∷ [])
+    let all : others t e v (rows n)
+    ≡ without e (getD a (3 * v + 0) 0 ∷ getD a (3 * v + 1) 0 ∷ getD a (3 * v + 2) 0 ∷ [])
     = others-without t e v (rows n) ∙ ap (without e) (N .three v inner l) in
     let w = pair n t e v vt le te inner l in
-    all ∙ two-left e (getD a (3 * v + 0) 0) (getD a (3 * v + 1) 0) (getD a (3 * v + 2) 0) (ap length (sym all ∙ w .2 .list))
+    all ∙ two-left e (getD a (3 * v + 0) 0) (getD a (3 * v + 1) 0) (getD a (3 * v + 2) 0)
+    (ap length (sym all ∙ w .2 .list))

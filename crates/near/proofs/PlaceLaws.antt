@@ -14,10 +14,11 @@ use Rattle.taxa.proofs.Bools.{either, or-cases, or-left, or-right}
 use Rattle.tree.specs.Tree.{lo, hi, rows, nodes, touches, far, rowsAt, fromZero}
 use Rattle.tree.specs.Lists.{mem}
 use Rattle.tree.proofs.Rounds.{Ends, part-start, part-flat}
-use Rattle.tree.proofs.Joins.{touch-joins, joins-touch, joins-flip, joins-lt, joins-ne, flat-join, far-is}
+use Rattle.tree.proofs.Joins.{touch-joins, joins-touch, joins-flip, joins-lt, joins-ne, flat-join}
+use Rattle.tree.proofs.Joins.{far-is}
 use Rattle.tree.proofs.RowsAt.{rows-at-in, rows-at-out}
-use Rattle.table.specs.Rowed.{Rowed}
-use Rattle.near.specs.Near.{Near, otherFirst, otherSecond}
+use Rattle.table.specs.Between.{Rowed}
+use Rattle.near.specs.Between.{Near, otherFirst, otherSecond}
 
 -- ---- the rows that the code takes
 mem-one : (r x : ℕ) → mem r (x ∷ []) ≡ true → r ≡ x
@@ -51,48 +52,64 @@ pub record Across (n : ℕ) (t : List ℕ) (v r : ℕ) : Type 0 where
 
 module _ (n : ℕ) (t a : List ℕ) (v : ℕ) (R : Rowed n t) (N : Near n t a) where
   across : (l : List ℕ) (r : ℕ) → rowsAt t v (rows n) ≡ l → mem r l ≡ true → Across n t v r
-  across l r e h = let w = rows-at-out t v (rows n) r (ap (mem r) e ∙ h) in record { row = w .0; at = w .1 }
+  across l r e h = let w = rows-at-out t v (rows n) r (ap (mem r) e ∙ h) in
+      record { row = w .0; at = w .1 }
 
   pub place-0 : v < nodes n → (r : ℕ) → r ≡ getD a (3 * v + 0) 0 → Across n t v r
   place-0 l r e = go (either (ltb v n))
     where
       go : (ltb v n ≡ true) ⊎ (ltb v n ≡ false) → Across n t v r
-      go (inl w) = across _ r (N .one v (ltb-true v n w)) (ap (λ (x : ℕ). mem x (getD a (3 * v + 0) 0 ∷ [])) e ∙ in-head (getD a (3 * v + 0) 0) [])
+      go (inl w) = across _ r (N .one v (ltb-true v n w))
+          (ap (λ (x : ℕ). mem x (getD a (3 * v + 0) 0 ∷ [])) e ∙ in-head (getD a (3 * v + 0) 0) [])
       go (inr w) = across _ r (N .three v (ltb-false v n w) l)
-          (ap (λ (x : ℕ). mem x (getD a (3 * v + 0) 0 ∷ getD a (3 * v + 1) 0 ∷ getD a (3 * v + 2) 0 ∷ [])) e
+          (ap (λ (x : ℕ). mem x (getD a (3 * v + 0) 0 ∷ getD a (3 * v + 1) 0 ∷ getD a (3 * v + 2) 0
+          ∷ [])) e
           ∙ in-head (getD a (3 * v + 0) 0) (getD a (3 * v + 1) 0 ∷ getD a (3 * v + 2) 0 ∷ []))
 
   module _ (inner : n ≤ v) (l : v < nodes n) where
     pub place-1 : (r : ℕ) → r ≡ getD a (3 * v + 1) 0 → Across n t v r
     place-1 r e = across _ r (N .three v inner l)
-        (ap (λ (x : ℕ). mem x (getD a (3 * v + 0) 0 ∷ getD a (3 * v + 1) 0 ∷ getD a (3 * v + 2) 0 ∷ [])) e
-        ∙ in-tail (getD a (3 * v + 1) 0) (getD a (3 * v + 0) 0) (getD a (3 * v + 1) 0 ∷ getD a (3 * v + 2) 0 ∷ []) (in-head (getD a (3 * v + 1) 0) (getD a (3 * v + 2) 0 ∷ [])))
+        (ap (λ (x : ℕ). mem x (getD a (3 * v + 0) 0 ∷ getD a (3 * v + 1) 0 ∷ getD a (3 * v + 2) 0
+        ∷ [])) e
+        ∙ in-tail (getD a (3 * v + 1) 0) (getD a (3 * v + 0) 0)
+        (getD a (3 * v + 1) 0 ∷ getD a (3 * v + 2) 0 ∷ [])
+        (in-head (getD a (3 * v + 1) 0) (getD a (3 * v + 2) 0 ∷ [])))
 
     pub place-2 : (r : ℕ) → r ≡ getD a (3 * v + 2) 0 → Across n t v r
     place-2 r e = across _ r (N .three v inner l)
-        (ap (λ (x : ℕ). mem x (getD a (3 * v + 0) 0 ∷ getD a (3 * v + 1) 0 ∷ getD a (3 * v + 2) 0 ∷ [])) e
-        ∙ in-tail (getD a (3 * v + 2) 0) (getD a (3 * v + 0) 0) (getD a (3 * v + 1) 0 ∷ getD a (3 * v + 2) 0 ∷ [])
-        (in-tail (getD a (3 * v + 2) 0) (getD a (3 * v + 1) 0) (getD a (3 * v + 2) 0 ∷ []) (in-head (getD a (3 * v + 2) 0) [])))
+        (ap (λ (x : ℕ). mem x (getD a (3 * v + 0) 0 ∷ getD a (3 * v + 1) 0 ∷ getD a (3 * v + 2) 0
+        ∷ [])) e
+        ∙ in-tail (getD a (3 * v + 2) 0) (getD a (3 * v + 0) 0)
+        (getD a (3 * v + 1) 0 ∷ getD a (3 * v + 2) 0 ∷ [])
+        (in-tail (getD a (3 * v + 2) 0) (getD a (3 * v + 1) 0) (getD a (3 * v + 2) 0 ∷ [])
+        (in-head (getD a (3 * v + 2) 0) [])))
 
     -- what holds across the three places holds across every row at v
-    pub all-three : (P : ℕ → Type 0) (x y z : ℕ) → x ≡ getD a (3 * v + 0) 0 → y ≡ getD a (3 * v + 1) 0 → z ≡ getD a (3 * v + 2) 0 → P x → P y → P z
+    pub all-three : (P : ℕ → Type 0) (x y z : ℕ) → x ≡ getD a (3 * v + 0) 0
+        → y ≡ getD a (3 * v + 1) 0 → z ≡ getD a (3 * v + 2) 0 → P x → P y → P z
         → (r : ℕ) → r < rows n → touches t r v ≡ true → P r
     all-three P x y z ex ey ez px py pz r lr h =
-        go (mem-three r (getD a (3 * v + 0) 0) (getD a (3 * v + 1) 0) (getD a (3 * v + 2) 0) (ap (mem r) (sym (N .three v inner l)) ∙ rows-at-in t v (rows n) r lr h))
+        go (mem-three r (getD a (3 * v + 0) 0) (getD a (3 * v + 1) 0) (getD a (3 * v + 2) 0)
+        (ap (mem r) (sym (N .three v inner l)) ∙ rows-at-in t v (rows n) r lr h))
       where
-        go : (r ≡ getD a (3 * v + 0) 0) ⊎ ((r ≡ getD a (3 * v + 1) 0) ⊎ (r ≡ getD a (3 * v + 2) 0)) → P r
+        go : (r ≡ getD a (3 * v + 0) 0) ⊎ ((r ≡ getD a (3 * v + 1) 0) ⊎ (r ≡ getD a (3 * v + 2) 0))
+            → P r
         go (inl w) = subst P (ex ∙ sym w) px
         go (inr (inl w)) = subst P (ey ∙ sym w) py
         go (inr (inr w)) = subst P (ez ∙ sym w) pz
 
-  pub all-one : v < n → (P : ℕ → Type 0) (x : ℕ) → x ≡ getD a (3 * v + 0) 0 → P x → (r : ℕ) → r < rows n → touches t r v ≡ true → P r
+  pub all-one : v < n → (P : ℕ → Type 0) (x : ℕ) → x ≡ getD a (3 * v + 0) 0 → P x → (r : ℕ)
+      → r < rows n → touches t r v ≡ true → P r
   all-one l P x ex px r lr h =
-      subst P (ex ∙ sym (mem-one r (getD a (3 * v + 0) 0) (ap (mem r) (sym (N .one v l)) ∙ rows-at-in t v (rows n) r lr h))) px
+      subst P (ex ∙ sym (mem-one r (getD a (3 * v + 0) 0) (ap (mem r) (sym (N .one v l))
+      ∙ rows-at-in t v (rows n) r lr h))) px
 
 -- ---- the row that led to a node, and the others there
-module _ (n : ℕ) (t a : List ℕ) (e v : ℕ) (R : Rowed n t) (N : Near n t a) (le : e < rows n) (te : touches t e v ≡ true) where
+module _ (n : ℕ) (t a : List ℕ) (e v : ℕ) (R : Rowed n t) (N : Near n t a) (le : e < rows n)
+    (te : touches t e v ≡ true) where
   pub node-lt : v < nodes n
-  node-lt = joins-lt t e v (far t e v) (nodes n) (R .ordered .order e le .0) (R .ordered .order e le .1) (touch-joins t e v te) .0
+  node-lt = joins-lt t e v (far t e v) (nodes n) (R .ordered .order e le .0)
+      (R .ordered .order e le .1) (touch-joins t e v te) .0
 
   -- what holds of the row at a taxon holds of every row there
   pub at-taxon : v < n → (P : ℕ → Type 0) → P e → (r : ℕ) → r < rows n → touches t r v ≡ true → P r
@@ -122,7 +139,8 @@ module _ (n : ℕ) (t a : List ℕ) (e v : ℕ) (R : Rowed n t) (N : Near n t a)
     places = go (either (eqb x e)) (either (eqb y e))
       where
         third : (eqb x e ≡ false) → (eqb y e ≡ false) → e ≡ z
-        third p q = last (all-three n t a v R N inner node-lt (λ r. (r ≡ x) ⊎ ((r ≡ y) ⊎ (r ≡ z))) x y z refl refl refl (inl refl) (inr (inl refl)) (inr (inr refl)) e le te)
+        third p q = last (all-three n t a v R N inner node-lt (λ r. (r ≡ x) ⊎ ((r ≡ y) ⊎ (r ≡ z))) x
+            y z refl refl refl (inl refl) (inr (inl refl)) (inr (inr refl)) e le te)
           where
             last : (e ≡ x) ⊎ ((e ≡ y) ⊎ (e ≡ z)) → e ≡ z
             last (inl w) = absurd (eqb-false x e p (sym w))
@@ -130,9 +148,14 @@ module _ (n : ℕ) (t a : List ℕ) (e v : ℕ) (R : Rowed n t) (N : Near n t a)
             last (inr (inr w)) = w
 
         go : (eqb x e ≡ true) ⊎ (eqb x e ≡ false) → (eqb y e ≡ true) ⊎ (eqb y e ≡ false) → Where
-        go (inl p) q = at-x (sym (eqb-true x e p)) (ef ∙ ap (λ (b : Bool). pick b y x) p) (eg ∙ ap (λ (b : Bool). pick b z (pick (eqb y e) z y)) p)
-        go (inr p) (inl q) = at-y (sym (eqb-true y e q)) (ef ∙ ap (λ (b : Bool). pick b y x) p) (eg ∙ ap (λ (b : Bool). pick b z (pick (eqb y e) z y)) p ∙ ap (λ (b : Bool). pick b z y) q)
-        go (inr p) (inr q) = at-z (third p q) (ef ∙ ap (λ (b : Bool). pick b y x) p) (eg ∙ ap (λ (b : Bool). pick b z (pick (eqb y e) z y)) p ∙ ap (λ (b : Bool). pick b z y) q)
+        go (inl p) q = at-x (sym (eqb-true x e p)) (ef ∙ ap (λ (b : Bool). pick b y x) p)
+            (eg ∙ ap (λ (b : Bool). pick b z (pick (eqb y e) z y)) p)
+        go (inr p) (inl q) = at-y (sym (eqb-true y e q)) (ef ∙ ap (λ (b : Bool). pick b y x) p)
+            (eg ∙ ap (λ (b : Bool). pick b z (pick (eqb y e) z y)) p
+            ∙ ap (λ (b : Bool). pick b z y) q)
+        go (inr p) (inr q) = at-z (third p q) (ef ∙ ap (λ (b : Bool). pick b y x) p)
+            (eg ∙ ap (λ (b : Bool). pick b z (pick (eqb y e) z y)) p
+            ∙ ap (λ (b : Bool). pick b z y) q)
 
     pub across-first : Across n t v f
     unfolding x y z
@@ -153,7 +176,8 @@ module _ (n : ℕ) (t a : List ℕ) (e v : ℕ) (R : Rowed n t) (N : Near n t a)
         go (at-z p q r) = place-1 n t a v R N inner node-lt g r
 
     -- what holds of e and of the two others holds of every row at v
-    pub at-inner : (P : ℕ → Type 0) → P e → P f → P g → (r : ℕ) → r < rows n → touches t r v ≡ true → P r
+    pub at-inner : (P : ℕ → Type 0) → P e → P f → P g → (r : ℕ) → r < rows n → touches t r v ≡ true
+        → P r
     unfolding x y z
     at-inner P pe pf pg = go places
       where
@@ -168,14 +192,13 @@ module _ (n : ℕ) (t : List ℕ) (R : Rowed n t) where
   ends r h = let o = R .ordered .order r h in (omega arith, o .1)
 
   zero-flat : (r : ℕ) → r < rows n → fromZero n t (lo t r) ≡ fromZero n t (hi t r)
-  zero-flat r h = part-flat n t (rows n) 0 ends (omega (arith, R .ordered .big)) r h (λ d. omega arith)
+  zero-flat r h = part-flat n t (rows n) 0 ends (omega (arith, R .ordered .big)) r h
+      (λ d. omega arith)
 
-  pub across-node : (v r : ℕ) → Across n t v r → far t r v < nodes n
-  across-node v r A =
-      joins-lt t r v (far t r v) (nodes n) (R .ordered .order r (A .row) .0) (R .ordered .order r (A .row) .1) (touch-joins t r v (A .at)) .1
-
-  pub across-zero : (v r : ℕ) → Across n t v r → fromZero n t v ≡ true → fromZero n t (far t r v) ≡ true
-  across-zero v r A z = sym (flat-join t r v (far t r v) (fromZero n t) (touch-joins t r v (A .at)) (zero-flat r (A .row))) ∙ z
+  pub across-zero : (v r : ℕ) → Across n t v r → fromZero n t v ≡ true
+      → fromZero n t (far t r v) ≡ true
+  across-zero v r A z = sym (flat-join t r v (far t r v) (fromZero n t) (touch-joins t r v (A .at))
+      (zero-flat r (A .row))) ∙ z
 
   pub across-room : (v r : ℕ) → Across n t v r → 2 * r + 1 < length t
   across-room v r A = omega (arith, A .row, R .ordered .len)
@@ -185,7 +208,8 @@ module _ (n : ℕ) (t : List ℕ) (R : Rowed n t) where
 
   -- across a row and back
   pub across-touch : (v r : ℕ) → Across n t v r → touches t r (far t r v) ≡ true
-  across-touch v r A = joins-touch t r (far t r v) v (joins-flip t r v (far t r v) (touch-joins t r v (A .at)))
+  across-touch v r A = joins-touch t r (far t r v) v
+      (joins-flip t r v (far t r v) (touch-joins t r v (A .at)))
 
   pub across-back : (v r : ℕ) → Across n t v r → far t r (far t r v) ≡ v
   across-back v r A =

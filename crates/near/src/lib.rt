@@ -4,8 +4,8 @@ ghost use mathlib.Core.Path.{_≡_};
 ghost use lib.ListN.{length, getD};
 ghost use Rattle.taxa.specs.Most.{most};
 ghost use Rattle.tree.specs.Tree.{nodes};
-ghost use Rattle.table.specs.Rowed.{Rowed};
-ghost use Rattle.near.specs.Near.{noRows, hooked, Hooked, OtherTwo};
+ghost use Rattle.table.specs.Between.{Rowed};
+ghost use Rattle.near.specs.Between.{noRows, hooked, Hooked, OtherTwo};
 
 // Three places for each of the most nodes that a tree has.
 pub const PLACES: usize = 378;

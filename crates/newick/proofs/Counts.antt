@@ -8,7 +8,8 @@ use Rattle.calls.specs.declared.Refusal.{Refusal}
 use Rattle.reader.specs.declared.Reading.{Reading}
 use Rattle.reader.specs.declared.Reading.the-variants as reading
 use Rattle.calls.specs.Calls.{gives, refuses, tells, done}
-use Rattle.reader.specs.Promises.{Right, Reads, of-count, of-text, of-room, of-tree, readingSays, Plants}
+use Rattle.reader.specs.Promises.{Right, Reads, of-count, of-text, of-room, of-tree, readingSays}
+use Rattle.reader.specs.Promises.{Plants}
 
 pub read-right : (n : ℕ) (s out out′ : List ℕ) (r : Reading)
     → Plants n s out r out′ → r ≡ reading.Table → Right n

@@ -9,7 +9,7 @@ use lib.Dec.{ltb}
 use lib.ListN.{length, getD}
 use borrow.Author.Tests.{ltb-true, ltb-false}
 use Rattle.taxa.proofs.Bools.{either}
-use Rattle.labels.specs.Heads.{valueAt}
+use Rattle.labels.specs.Between.{valueAt}
 use Rattle.labels.proofs.HeadLaws.{among-digits, value-byte}
 use Rattle.labels.proofs.TextLaws.{one-digit, two-digits}
 use Rattle.newick.specs.Input.{Number, LineSays}
@@ -48,14 +48,20 @@ module _ (s : List ℕ) where
           let h : m < 10 = ltb-true m 10 l in
           let e : s ≡ (48 + m) ∷ [] = q .is ∙ one-digit m h in
           let k : length s ≡ 1 = ap length e in
-          one k (digit-value s 0 m (omega (arith, k)) (ap (λ (x : List ℕ). getD x 0 0) e) h) (q .some) h
+          one k (digit-value s 0 m (omega (arith, k)) (ap (λ (x : List ℕ). getD x 0 0) e) h)
+          (q .some) h
       go (inr l) =
           let h : 10 ≤ m = ltb-false m 10 l in
           let e : s ≡ (48 + m / 10) ∷ (48 + m % 10) ∷ [] = q .is ∙ two-digits m h (q .few) in
           let k : length s ≡ 2 = ap length e in
-          let a : valueAt s 0 ≡ m / 10 = digit-value s 0 (m / 10) (omega (arith, k)) (ap (λ (x : List ℕ). getD x 0 0) e) (omega (arith, q .few)) in
-          let b : valueAt s 1 ≡ m % 10 = digit-value s 1 (m % 10) (omega (arith, k)) (ap (λ (x : List ℕ). getD x 1 0) e) (omega arith) in
-          two k (omega (arith, a, q .few)) (omega (arith, a, h)) (omega (arith, b)) (omega (arith, a, b))
+          let a : valueAt s 0 ≡ m / 10 =
+          digit-value s 0 (m / 10) (omega (arith, k)) (ap (λ (x : List ℕ). getD x 0 0) e)
+          (omega (arith, q .few)) in
+          let b : valueAt s 1 ≡ m % 10 =
+          digit-value s 1 (m % 10) (omega (arith, k)) (ap (λ (x : List ℕ). getD x 1 0) e)
+          (omega arith) in
+          two k (omega (arith, a, q .few)) (omega (arith, a, h)) (omega (arith, b))
+          (omega (arith, a, b))
 
   none : ((m : ℕ) → Spelt m → ⊥) → LineSays s 0
   none h = inr (refl, λ m q. h m (spelt m q))
@@ -95,7 +101,8 @@ module _ (s : List ℕ) where
         inl (record {
           some = some;
           few = omega (arith, few);
-          is = one-byte s e ∙ ap (λ (b : ℕ). b ∷ []) (value-byte s 0 few .1) ∙ sym (one-digit (valueAt s 0) few);
+          is = one-byte s e ∙ ap (λ (b : ℕ). b ∷ []) (value-byte s 0 few .1)
+              ∙ sym (one-digit (valueAt s 0) few);
         })
 
     pub two-line : length s ≡ 2 → valueAt s 1 < 10
@@ -108,7 +115,8 @@ module _ (s : List ℕ) where
           some = omega (arith, some);
           few = omega (arith, few, h);
           is = two-bytes s e
-              ∙ ap₂ (λ (x y : ℕ). x ∷ y ∷ []) (value-byte s 0 few .1 ∙ ap (λ (x : ℕ). 48 + x) a) (value-byte s 1 h .1 ∙ ap (λ (x : ℕ). 48 + x) b)
+              ∙ ap₂ (λ (x y : ℕ). x ∷ y ∷ []) (value-byte s 0 few .1 ∙ ap (λ (x : ℕ). 48 + x) a)
+              (value-byte s 1 h .1 ∙ ap (λ (x : ℕ). 48 + x) b)
               ∙ sym (two-digits m (omega (arith, some)) (omega (arith, few, h)));
         })
 

@@ -24,6 +24,12 @@ pub fn say(k: u64) {
     put(b" ");
 }
 
+// Writes a number, a blank and words.
+pub fn tell(k: u64, words: &[u8]) {
+    say(k);
+    put(words);
+}
+
 // Writes the numbers of a list, a blank after each.
 pub fn numbers(l: &[u64]) {
     let mut i: usize = 0;

@@ -2,20 +2,20 @@
 -- a text that is none has one place. Assumes nothing.
 use mathlib.Core.Path.{_≡_, refl, sym, ap, ap₂, _∙_, subst}
 use mathlib.Core.Logic.{_↔_}
-use mathlib.Core.Bool.{Bool, true, false}
-use mathlib.Core.List.{List, _∷_, _++_, append-assoc}
+use mathlib.Core.Bool.{false}
+use mathlib.Core.List.{List, _∷_, _++_, append-assoc, head-eq-of-cons-eq, tail-eq-of-cons-eq}
 use Prim.Native.Nat.{ℕ, suc, _+_, _*_, _≤_, _<_}
+use native.Mathlib.Nat.{lt-of-not-le}
 use native.Mathlib.Omega.{arith}
-use lib.Dec.{ltb}
 use lib.ListN.{take, drop, take-append-drop}
 use lib.Seq.{take-take}
-use borrow.Author.Tests.{ltb-true, ltb-false}
 use Rattle.taxa.specs.Most.{most}
 use Rattle.tree.specs.Tree.{rows, Valid}
 use Rattle.tree.specs.Refusals.{Accepted}
 use Rattle.calls.specs.declared.Refusal.{Refusal}
-use Rattle.labels.specs.Labels.{digit}
-use Rattle.grammar.specs.Newick.{Member, Outermost, two, three, text, whole, times, timesIn, EachOnce, IsTree, GoesOn, NoTree, comma, closes}
+use Rattle.labels.specs.Between.{digit}
+use Rattle.grammar.specs.Newick.{Member, Outermost, two, three, text, whole, times, timesIn}
+use Rattle.grammar.specs.Newick.{EachOnce, IsTree, GoesOn, NoTree, comma, closes}
 use Rattle.grammar.specs.Numbers.{table}
 use Rattle.grammar.proofs.Labels.{Below}
 use Rattle.grammar.proofs.Low.{low-some}
@@ -23,9 +23,10 @@ use Rattle.grammar.proofs.Valid.{table-valid}
 use Rattle.reader.specs.declared.Reading.{Reading}
 use Rattle.reader.specs.declared.Reading.the-variants as reading
 use Rattle.calls.specs.Calls.{Said, gives, refusesAt}
-use Rattle.reader.specs.Promises.{Right, Reads, of-count, of-text, of-room, of-tree, readingSays}
-use Rattle.reader.proofs.Members.{head-is, tail-is, over-stop, stop-at, settled}
-use Rattle.reader.proofs.Places.{as-tree}
+use Rattle.reader.specs.Promises.{Right, Reads, of-count, of-text, of-room, of-tree}
+use Rattle.reader.specs.Promises.{readingSays}
+use Rattle.newick_members.proofs.Members.{over-stop, stop-at, settled}
+use Rattle.newick_members.proofs.Places.{as-tree}
 
 -- ---- a text has one tree at most
 
@@ -36,7 +37,7 @@ both : (a b : Member) (i j : ℕ) (u v : List ℕ) → Below 100 a → Below 100
 both a b i j u v h k p q e =
     let w = settled a b (i ∷ u) (j ∷ v) h k
     (over-stop a (i ∷ u) (stop-at i u p)) (stop-at j v q) e in
-    (w .0, head-is (w .1), tail-is (w .1))
+    (w .0, head-eq-of-cons-eq (w .1), tail-eq-of-cons-eq (w .1))
 
 module _ (n : ℕ) (few : n ≤ most) where
   low : (t : Member) (o : Outermost) → EachOnce n o
@@ -50,20 +51,20 @@ module _ (n : ℕ) (few : n ≤ most) where
   unfolding whole timesIn
   one-tree (two a b) (two c d) h k e =
       let w = both a c comma comma _ _ (low a (two a b) h (λ x. omega arith))
-      (low c (two c d) k (λ x. omega arith)) refl refl (tail-is e) in
+      (low c (two c d) k (λ x. omega arith)) refl refl (tail-eq-of-cons-eq e) in
       let v = both b d closes closes _ _ (low b (two a b) h (λ x. omega arith))
       (low d (two c d) k (λ x. omega arith)) refl refl (w .2) in
       ap₂ two (w .0) (v .0)
   one-tree (two a b) (three c d f) h k e =
       let w = both a c comma comma _ _ (low a (two a b) h (λ x. omega arith))
-      (low c (three c d f) k (λ x. omega arith)) refl refl (tail-is e) in
+      (low c (three c d f) k (λ x. omega arith)) refl refl (tail-eq-of-cons-eq e) in
       let v = both b d closes comma _ _ (low b (two a b) h (λ x. omega arith))
       (low d (three c d f) k (λ x. omega arith)) refl refl (w .2) in
       absurd (omega (arith, v .1))
   one-tree (three a b c) (two d f) h k e =
       let w = both a d comma comma _ _
       (low a (three a b c) h (λ x. omega arith))
-      (low d (two d f) k (λ x. omega arith)) refl refl (tail-is e) in
+      (low d (two d f) k (λ x. omega arith)) refl refl (tail-eq-of-cons-eq e) in
       let v = both b f comma closes _ _
       (low b (three a b c) h (λ x. omega arith))
       (low f (two d f) k (λ x. omega arith)) refl refl (w .2) in
@@ -71,7 +72,7 @@ module _ (n : ℕ) (few : n ≤ most) where
   one-tree (three a b c) (three d f g) h k e =
       let w = both a d comma comma _ _
       (low a (three a b c) h (λ x. omega arith))
-      (low d (three d f g) k (λ x. omega arith)) refl refl (tail-is e) in
+      (low d (three d f g) k (λ x. omega arith)) refl refl (tail-eq-of-cons-eq e) in
       let v = both b f comma comma _ _
       (low b (three a b c) h (λ x. omega arith))
       (low f (three d f g) k (λ x. omega arith)) refl refl (w .2) in
@@ -91,7 +92,9 @@ shorter : (n : ℕ) (s : List ℕ) (i j : ℕ) → i ≤ j → GoesOn n (take j 
     → GoesOn n (take i s)
 shorter n s i j h (w, t) = (
   drop i (take j s) ++ w,
-  as-tree n (ap (λ (l : List ℕ). l ++ w) (sym (take-append-drop i (take j s)) ∙ ap (λ (l : List ℕ). l ++ drop i (take j s)) (take-take i j s h)) ∙ append-assoc (take i s) (drop i (take j s)) w) t,
+  as-tree n (ap (λ (l : List ℕ). l ++ w) (sym (take-append-drop i (take j s))
+      ∙ ap (λ (l : List ℕ). l ++ drop i (take j s)) (take-take i j s h))
+      ∙ append-assoc (take i s) (drop i (take j s)) w) t,
 )
 
 not-before : (n : ℕ) (s : List ℕ) (p q : ℕ) → NoTree n s p → NoTree n s q
@@ -101,12 +104,11 @@ not-before n s p q a b h = a .there (omega (arith, h, b .inside))
 
 pub one-place : (n : ℕ) (s : List ℕ) (p q : ℕ) → NoTree n s p → NoTree n s q
     → p ≡ q
-one-place n s p q a b = go (ltb p q) refl (ltb q p) refl
-  where
-    go : (x : Bool) → ltb p q ≡ x → (y : Bool) → ltb q p ≡ y → p ≡ q
-    go true e y f = absurd (not-before n s p q a b (ltb-true p q e))
-    go false e true f = absurd (not-before n s q p b a (ltb-true q p f))
-    go false e false f = omega (arith, ltb-false p q e, ltb-false q p f)
+one-place n s p q a b = omega (
+  arith,
+  lt-of-not-le (not-before n s p q a b),
+  lt-of-not-le (not-before n s q p b a),
+)
 
 -- ---- one thing is said of a text
 pub reads-one : (n : ℕ) (s : List ℕ) (room : ℕ) (h k : Said (List ℕ))
@@ -169,7 +171,8 @@ reads-valid n s room t (of-room r a l e) = absurd
     (let z : _≡_ {A = ℕ} 0 1 = cc in omega arith)
 reads-valid n s room t (of-tree r o a l e) =
     let f : t ≡ table n o = cc in
-    let v : Valid n t = subst (λ (u : List ℕ). Valid n u) (sym f) (table-valid n o (r .0) (a .each)) in
+    let v : Valid n t = subst (λ (u : List ℕ). Valid n u) (sym f)
+    (table-valid n o (r .0) (a .each)) in
     record { few = r .1; whole = v .len; valid = v }
 
 -- With a right taxon count and room for it, a table is given exactly for the

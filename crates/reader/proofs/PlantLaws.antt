@@ -11,10 +11,10 @@ use Rattle.calls.specs.declared.Refusal.the-variants.{Count, Room, Text}
 use Rattle.grammar.specs.Newick.{Outermost, Stands}
 use Rattle.grammar.specs.Numbers.{blank, table}
 use Rattle.grammar.proofs.Valid.{table-length}
-use Rattle.reader.specs.declared.Parsed.{Parsed}
-use Rattle.reader.specs.declared.Parsed.the-variants as parsed
+use Rattle.newick_outer.specs.declared.Parsed.{Parsed}
+use Rattle.newick_outer.specs.declared.Parsed.the-variants as parsed
 use Rattle.reader.specs.declared.Reading.the-variants as reading
-use Rattle.reader.specs.Stages.{ParsedIs}
+use Rattle.newick_outer.specs.Between.{ParsedIs}
 use Rattle.calls.specs.Calls.{gives, refuses, refusesAt}
 use Rattle.calls.proofs.CallLaws.{call-refuses, call-refusesAt, call-gives}
 use Rattle.reader.specs.Promises.{Right, of-count, of-text, of-room, of-tree, Plants}
@@ -31,12 +31,22 @@ zeros-blank n few = take-zeros (2 * rows n) 250 (omega (arith, few))
 
 module _ (n : ℕ) (s out : List ℕ) where
   pub wrong-count : (Right n → ⊥) → Plants n s out (reading.Refused Count) out
-  wrong-count h = record { said = refuses Count; is = of-count h refl; call = call-refuses Count refl }
+  wrong-count h = record {
+    said = refuses Count;
+    is = of-count h refl;
+    call = call-refuses Count
+        refl;
+  }
 
   module _ (right : Right n) (r : Parsed) (t : List ℕ) (P : ParsedIs n s t r) where
     pub no-tree : (p : ℕ) → r ≡ parsed.Bad p
         → Plants n s out (reading.RefusedAt Text p) out
-    no-tree p e = record { said = refusesAt Text p; is = of-text right p (subst (ParsedIs n s t) e P) refl; call = call-refusesAt Text p refl }
+    no-tree p e = record {
+      said = refusesAt Text p;
+      is = of-text right p
+          (subst (ParsedIs n s t) e P) refl;
+      call = call-refusesAt Text p refl;
+    }
 
     module _ (e : r ≡ parsed.Whole) where
       whole : (o : Outermost) × Stands n s o × (t ≡ table n o)

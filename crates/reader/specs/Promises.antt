@@ -4,8 +4,7 @@ use Prim.Native.Nat.{ℕ, _*_, _≤_, _<_}
 use mathlib.Core.Path.{_≡_}
 use mathlib.Core.List.{List}
 use lib.ListN.{length}
-use Rattle.calls.specs.Calls.{Said, gives, refuses, refusesAt}
-use Rattle.calls.specs.Calls.{CallBy, tells, done, atStart}
+use Rattle.calls.specs.Calls.{Said, gives, refuses, refusesAt, CallBy, tells, done, atStart}
 use Rattle.calls.specs.declared.Refusal.{Refusal}
 use Rattle.taxa.specs.Most.{most}
 use Rattle.tree.specs.Tree.{rows}

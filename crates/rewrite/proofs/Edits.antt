@@ -42,10 +42,12 @@ module _ (t : List ℕ) (bytes : (i : ℕ) → Fits w8 (getD t i 0)) where
   end-byte e x = one-of (touches t x (lo t e)) (2 * e) (2 * e + 1)
 
 -- ---- rows stored one after the other, with the ends that were read before
-pub exchange-is : (t t₁ t₂ : List ℕ) (e x y p q u v : ℕ) → p ≡ endOn t e x → q ≡ far t e p → u ≡ far t x p → v ≡ far t y q → t₁ ≡ put t x q u → t₂ ≡ put t₁ y p v → t₂ ≡ nni t e x y
+pub exchange-is : (t t₁ t₂ : List ℕ) (e x y p q u v : ℕ) → p ≡ endOn t e x → q ≡ far t e p
+    → u ≡ far t x p → v ≡ far t y q → t₁ ≡ put t x q u → t₂ ≡ put t₁ y p v → t₂ ≡ nni t e x y
 unfolding nni
 exchange-is t t₁ t₂ e x y p q u v hp hq hu hv h₁ h₂ = cc
 
-pub end-is : (t t₁ t₂ t₃ : List ℕ) (p f g b r s c d : ℕ) → r ≡ far t f p → s ≡ far t g p → c ≡ lo t b → d ≡ hi t b → t₁ ≡ put t f r s → t₂ ≡ put t₁ b c p → t₃ ≡ put t₂ g p d
+pub end-is : (t t₁ t₂ t₃ : List ℕ) (p f g b r s c d : ℕ) → r ≡ far t f p → s ≡ far t g p
+    → c ≡ lo t b → d ≡ hi t b → t₁ ≡ put t f r s → t₂ ≡ put t₁ b c p → t₃ ≡ put t₂ g p d
     → t₃ ≡ putEnd t p f g b
 end-is t t₁ t₂ t₃ p f g b r s c d hr hs hc hd h₁ h₂ h₃ = cc

@@ -3,9 +3,9 @@ ghost use Prim.Native.Nat.{_<_};
 ghost use mathlib.Core.Path.{_≡_};
 ghost use Rattle.moves.specs.Moves as moves_spec;
 ghost use Rattle.moves.specs.Moves.{endOn, nni, putEnd, moveEnd};
-ghost use Rattle.moves.specs.Plans.{sideMoved, planMoved};
-ghost use Rattle.table.specs.Rowed.{HasRow};
-ghost use Rattle.rewrite.specs.Asked.{EndMoves, SideMoves, Rewrites};
+ghost use Rattle.moves.specs.Between.{sideMoved, planMoved};
+ghost use Rattle.table.specs.Between.{HasRow};
+ghost use Rattle.rewrite.specs.Between.{EndMoves, SideMoves, Rewrites};
 use moves::Plan;
 use moves::Side;
 

@@ -1,28 +1,32 @@
 -- Groups are counted one by one, a number for each partition on a list is
 -- written in order, and the numbers are the distances of two trees. Assumes
 -- nothing.
-use mathlib.Core.Path.{_≡_, refl, ap, _∙_}
+use mathlib.Core.Path.{_≡_, refl, sym, ap, ap₂, _∙_}
 use mathlib.Core.Bool.{true, _&&_}
-use mathlib.Core.List.{List, [], _∷_, _++_, append-assoc}
+use mathlib.Core.List.{List, [], _∷_, _++_}
 use Prim.Native.Nat.{ℕ, suc, _+_, _-_, _^_, _<_, _≤_}
 use native.Mathlib.Omega.{arith}
 use native.Mathlib.Numerals.{add-one}
 use lib.Bits.{bitAnd}
 use lib.Dec.{eqb, ltb}
-use lib.ListN.{length, take, drop, getD, set, length-append, length-drop}
-use lib.Seq.{take-suc, drop-cons, drop-length, set-at, length-take-le, take-length}
+use lib.ListN.{length, take, drop, getD, set, length-drop}
+use lib.Seq.{take-suc, drop-cons, drop-length, length-take-le, take-length}
 use borrow.Author.Tests.{ltb-true, eqb-true, eq-eqb}
+use Rattle.calls.specs.Calls.{atStart}
+use Rattle.calls.proofs.StartLaws.{start-put, wrote-length}
 use Rattle.taxa.specs.Sets.{tally, some}
 use Rattle.taxa.proofs.Sizes.{tally-one}
 use Rattle.taxa.proofs.Bools.{and-left, and-right, and-both, bool-eq}
 use Rattle.tree.specs.Splits.{dist, distancesBy, distances, unchanged}
 use Rattle.tree.specs.Refusals.{each}
 use Rattle.moves.specs.Groups.{met}
-use Rattle.moves.proofs.GroupLists.{met-le}
-use Rattle.rules.specs.Each.{mapped, zeros, Judges}
+use Rattle.moves.proofs.Ways.GroupLists.{met-le}
+use Rattle.rules.specs.Between.{mapped, Judges}
+use Rattle.rules.specs.Zeros.{zeros}
 
 -- ---- the groups from place i on: the one there, and the rest; none at the end
-pub met-rest : (y : ℕ) (gs : List ℕ) (i : ℕ) → i < length gs → met y (drop i gs) ≡ tally (some (bitAnd (getD gs i 0) y)) + met y (drop (i + 1) gs)
+pub met-rest : (y : ℕ) (gs : List ℕ) (i : ℕ) → i < length gs
+    → met y (drop i gs) ≡ tally (some (bitAnd (getD gs i 0) y)) + met y (drop (i + 1) gs)
 unfolding met
 met-rest y gs i l = rw (drop-cons gs i 0 l, add-one)
 
@@ -38,8 +42,15 @@ met-few y gs i = omega (arith, met-le y (drop i gs), length-drop i gs)
 pub four-met : (y : ℕ) (gs hs : List ℕ) → (length gs ≡ 2) × (length hs ≡ 2)
     → eqb (met y gs + met y hs) 4 ≡ (eqb (met y gs) (length gs) && eqb (met y hs) (length hs))
 four-met y gs hs two =
-    bool-eq (eqb (k + j) 4) (eqb k (length gs) && eqb j (length hs)) (λ h. apart (eqb-true (k + j) 4 h))
-    (λ h. eq-eqb (k + j) 4 (omega (arith, eqb-true k (length gs) (and-left (eqb k (length gs)) (eqb j (length hs)) h), eqb-true j (length hs) (and-right (eqb k (length gs)) (eqb j (length hs)) h), two .0, two .1)))
+    bool-eq (eqb (k + j) 4) (eqb k (length gs) && eqb j (length hs))
+    (λ h. apart (eqb-true (k + j) 4 h))
+    (λ h. eq-eqb (k + j) 4 (omega (
+      arith,
+      eqb-true k (length gs) (and-left (eqb k (length gs)) (eqb j (length hs)) h),
+      eqb-true j (length hs) (and-right (eqb k (length gs)) (eqb j (length hs)) h),
+      two .0,
+      two .1,
+    )))
   where
     k : ℕ
     k = met y gs
@@ -49,7 +60,8 @@ four-met y gs hs two =
 
     apart : k + j ≡ 4 → (eqb k (length gs) && eqb j (length hs)) ≡ true
     apart e =
-        and-both (eqb k (length gs)) (eqb j (length hs)) (eq-eqb k (length gs) (omega (arith, e, met-le y gs, met-le y hs, two .0, two .1)))
+        and-both (eqb k (length gs)) (eqb j (length hs))
+        (eq-eqb k (length gs) (omega (arith, e, met-le y gs, met-le y hs, two .0, two .1)))
         (eq-eqb j (length hs) (omega (arith, e, met-le y gs, met-le y hs, two .0, two .1)))
 
 -- ---- one number more
@@ -79,7 +91,8 @@ unfolding mapped zeros
 judge-none f o = record { count = refl; memory = refl }
 
 -- the first i of ys are done
-module _ {f : ℕ → ℕ} (ys : List ℕ) {o : List ℕ} (i : ℕ) (within : i ≤ length ys) {r : ℕ} {out : List ℕ} (so-far : Judges f (take i ys) o r out) where
+module _ (f : ℕ → ℕ) (ys : List ℕ) {o : List ℕ} (i : ℕ) (within : i ≤ length ys) {r : ℕ}
+    {out : List ℕ} (so-far : Judges f (take i ys) o r out) where
   size : length (take i ys) ≡ i
   size = length-take-le i ys within
 
@@ -90,22 +103,33 @@ module _ {f : ℕ → ℕ} (ys : List ℕ) {o : List ℕ} (i : ℕ) (within : i 
   judge-end m = let e : i ≡ length ys = omega arith in rw (e, take-length) at so-far
 
   pub judge-length : length ys ≤ length o → length out ≡ length o
-  judge-length room = rw (so-far .memory, length-append, length-mapped, length-drop, size) (omega arith)
+  judge-length room =
+      wrote-length so-far (omega (arith, length-mapped f (take i ys), size, within, room))
 
-  pub judge-next : length ys ≤ length o → i < length ys → (d : ℕ) → d ≡ f (getD ys i 0) → Judges f (take (i + 1) ys) o (r + tally (eqb d 0)) (set out i d)
-  judge-next room l d e = let more : mapped f (take (i + 1) ys) ≡ mapped f (take i ys) ++ d ∷ [] = rw (add-one, take-suc ys i 0 l, mapped-more, e) in record {
-    count = rw (more, zeros-more, so-far .count);
-    memory =
-        rw (so-far .memory, more, size, length-take-le (i + 1) ys (omega arith), drop-cons o i 0 (omega arith), add-one, append-assoc)
-        (set-at (mapped f (take i ys)) (getD o i 0) (drop (suc i) o) d i (length-mapped f (take i ys) ∙ size));
-  }
+  pub judge-next : length ys ≤ length o → i < length ys → (d : ℕ) → d ≡ f (getD ys i 0)
+      → Judges f (take (i + 1) ys) o (r + tally (eqb d 0)) (set out i d)
+  judge-next room l d e =
+      let ds = mapped f (take i ys) in
+      let i-is : i ≡ length ds = sym (length-mapped f (take i ys) ∙ size) in
+      let more : mapped f (take (i + 1) ys) ≡ ds ++ d ∷ [] =
+      rw (add-one, take-suc ys i 0 l, mapped-more, e) in
+      record {
+        count = rw (more, zeros-more, so-far .count);
+        memory = ap₂ (λ (w : List ℕ) (k : ℕ). set w k d) (so-far .memory) i-is
+            ∙ start-put ds o d (omega (arith, i-is, l, room))
+            ∙ ap (λ (w : List ℕ). atStart w o) (sym more);
+      }
 
 -- ---- the numbers are distances
-pub mapped-distances : (f : ℕ → ℕ) (n : ℕ) (t u ys : List ℕ) → each (λ y. ltb y (2 ^ n)) ys ≡ true → ((y : ℕ) → y < 2 ^ n → f y ≡ dist n t u y) → mapped f ys ≡ distances n t u ys
+pub mapped-distances : (f : ℕ → ℕ) (n : ℕ) (t u ys : List ℕ) → each (λ y. ltb y (2 ^ n)) ys ≡ true
+    → ((y : ℕ) → y < 2 ^ n → f y ≡ dist n t u y) → mapped f ys ≡ distances n t u ys
 unfolding mapped distancesBy each
 mapped-distances f n t u [] h k = refl
 mapped-distances f n t u (y ∷ ys) h k =
-    rw (k y (ltb-true y (2 ^ n) (and-left (ltb y (2 ^ n)) (each (λ z. ltb z (2 ^ n)) ys) h)), mapped-distances f n t u ys (and-right (ltb y (2 ^ n)) (each (λ z. ltb z (2 ^ n)) ys) h) k)
+    rw (
+      k y (ltb-true y (2 ^ n) (and-left (ltb y (2 ^ n)) (each (λ z. ltb z (2 ^ n)) ys) h)),
+      mapped-distances f n t u ys (and-right (ltb y (2 ^ n)) (each (λ z. ltb z (2 ^ n)) ys) h) k,
+    )
 
 pub zeros-unchanged : (n : ℕ) (t u ys : List ℕ) → zeros (distances n t u ys) ≡ unchanged n t u ys
 unfolding zeros distancesBy unchanged

@@ -8,8 +8,8 @@ ghost use lib.Bits.{bitAnd};
 ghost use lib.ListN.{length};
 ghost use Rattle.taxa.specs.Sets.{tally, some};
 ghost use Rattle.moves.specs.Groups as groups;
-ghost use Rattle.moves.specs.Plans.{byGroups};
-ghost use Rattle.rules.specs.Each.{allMeet, Few, Judges};
+ghost use Rattle.moves.specs.Between.{byGroups};
+ghost use Rattle.rules.specs.Between.{allMeet, Few, Judges};
 
 // 1 where the group g meets y, else 0.
 fn meets(g: u64, y: u64) -> usize

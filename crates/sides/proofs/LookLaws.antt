@@ -9,24 +9,27 @@ use Rattle.calls.specs.Calls.{gives, refuses, judged}
 use Rattle.tree.specs.Refusals.{countChecks, rowChecks, reachChecks, treeChecks, treeSaid, Accepted}
 use Rattle.calls.proofs.CheckLaws.{judged-pass, judged-next, judged-fail, gives-pass, refuses-more}
 use Rattle.tree.proofs.RefusalLaws.{pass-accepted}
-use Rattle.table.specs.Says.{checkSays, rowSaid}
-use Rattle.table.specs.Rowed.{Rowed}
+use Rattle.table.specs.Says.{checkSays}
+use Rattle.table.specs.Between.{rowSaid, Rowed}
 use Rattle.table.specs.declared.Checked.{Checked}
 use Rattle.table.proofs.Stages.{said-rowed}
 use Rattle.calls.specs.declared.Refusal.{Refusal}
-use Rattle.near.specs.Near.{Near}
-use Rattle.sides.specs.Filled.{Sided, Looked}
-use Rattle.sides.specs.Walked.{Reached, Found}
+use Rattle.near.specs.Between.{Near}
+use Rattle.sides.specs.Between.{Sided, Looked, Reached, Found}
 
 module _ (n : ℕ) (t : List ℕ) where
   past-4 : rowSaid n t ≡ gives tt → treeSaid n t ≡ judged (reachChecks n t) (tt {0})
-  past-4 h = judged-pass (countChecks n ++ rowChecks n t) (reachChecks n t) tt (gives-pass (countChecks n ++ rowChecks n t) tt tt h)
+  past-4 h = judged-pass (countChecks n ++ rowChecks n t) (reachChecks n t) tt
+      (gives-pass (countChecks n ++ rowChecks n t) tt tt h)
 
-  is-tree : rowSaid n t ≡ gives tt → every (fromZero n t) (nodes n) ≡ true → gives (tt {0}) ≡ treeSaid n t
+  is-tree : rowSaid n t ≡ gives tt → every (fromZero n t) (nodes n) ≡ true
+      → gives (tt {0}) ≡ treeSaid n t
   unfolding judged
-  is-tree h r = sym (past-4 h ∙ judged-next (every (fromZero n t) (nodes n)) Refusal.Unreached [] tt r)
+  is-tree h r = sym (past-4 h ∙ judged-next (every (fromZero n t) (nodes n)) Refusal.Unreached [] tt
+      r)
 
-  is-5 : rowSaid n t ≡ gives tt → every (fromZero n t) (nodes n) ≡ false → refuses Refusal.Unreached ≡ treeSaid n t
+  is-5 : rowSaid n t ≡ gives tt → every (fromZero n t) (nodes n) ≡ false
+      → refuses Refusal.Unreached ≡ treeSaid n t
   is-5 h r = sym (past-4 h ∙ judged-fail (every (fromZero n t) (nodes n)) Refusal.Unreached [] tt r)
 
   -- a refusal gives no tree
@@ -35,17 +38,21 @@ module _ (n : ℕ) (t : List ℕ) where
 
 -- ---- what is found, at each return of the look; c is what the checks 1 to 4
 -- answer
-rows-right : (n : ℕ) (t : List ℕ) {c : Checked} → checkSays c ≡ rowSaid n t → c ≡ Checked.Tree → rowSaid n t ≡ gives tt
+rows-right : (n : ℕ) (t : List ℕ) {c : Checked} → checkSays c ≡ rowSaid n t → c ≡ Checked.Tree
+    → rowSaid n t ≡ gives tt
 rows-right n t e h = sym e ∙ ap checkSays h
 
-pub found-rowed : (n : ℕ) (t : List ℕ) {c : Checked} → checkSays c ≡ rowSaid n t → c ≡ Checked.Tree → Rowed n t
+pub found-rowed : (n : ℕ) (t : List ℕ) {c : Checked} → checkSays c ≡ rowSaid n t → c ≡ Checked.Tree
+    → Rowed n t
 found-rowed n t e h = said-rowed n t (rows-right n t e h)
 
-module _ {n : ℕ} {t : List ℕ} {c : Checked} (rows-say : checkSays c ≡ rowSaid n t) {near s : List ℕ} where
+module _ {n : ℕ} {t : List ℕ} {c : Checked} (rows-say : checkSays c ≡ rowSaid n t)
+    {near s : List ℕ} where
   pub found-rows : {k : Refusal} → c ≡ Checked.Refused k → Found n t (Checked.Refused k) near s
   found-rows {k} h =
       let said : rowSaid n t ≡ refuses k = sym rows-say ∙ ap checkSays h in
-      let e : refuses k ≡ treeSaid n t = sym (refuses-more (countChecks n ++ rowChecks n t) (reachChecks n t) tt tt k said) in
+      let e : refuses k ≡ treeSaid n t =
+      sym (refuses-more (countChecks n ++ rowChecks n t) (reachChecks n t) tt tt k said) in
       record { says = e; near = not-tree n t k e; sides = not-tree n t k e }
 
   module _ (h : c ≡ Checked.Tree) {b : Bool} (R : Reached n t b s) where
@@ -60,12 +67,22 @@ module _ {n : ℕ} {t : List ℕ} {c : Checked} (rows-say : checkSays c ≡ rowS
     pub found-5 : b ≡ false → Found n t (Checked.Refused Refusal.Unreached) near s
     found-5 w =
         let e = is-5 n t (rows-right n t rows-say h) (sym (R .all) ∙ w) in
-        record { says = e; near = not-tree n t Refusal.Unreached e; sides = not-tree n t Refusal.Unreached e }
+        record {
+          says = e;
+          near = not-tree n t Refusal.Unreached e;
+          sides = not-tree n t
+              Refusal.Unreached e;
+        }
 
 -- a tree's table has its rows
 pub accepted-rowed : (n : ℕ) (t : List ℕ) → Accepted n t → Rowed n t
 accepted-rowed n t a = record {
-  ordered = record { big = a .valid .big; few = a .few; len = a .valid .len; order = a .valid .order };
+  ordered = record {
+    big = a .valid .big;
+    few = a .few;
+    len = a .valid .len;
+    order = a .valid .order;
+  };
   leaf = a .valid .leaf;
   inner = a .valid .inner;
 }

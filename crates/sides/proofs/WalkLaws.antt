@@ -21,25 +21,31 @@ use Rattle.tree.proofs.RowCounts.{Pair}
 use Rattle.tree.proofs.Colourings.{FlatAll, one-colour, hangs}
 use Rattle.tree.proofs.Forks.{fork, hang-f, hang-g, node-side, taxa-one}
 use Rattle.tree.proofs.Ends.{EndOf, side-lo, side-hi}
-use Rattle.table.specs.Rowed.{Rowed}
-use Rattle.near.specs.Near.{Near, OtherTwo}
-use Rattle.near.proofs.PlaceLaws.{Across, place-0, all-one, node-lt, at-taxon, at-inner, across-first, across-second, across-zero, across-touch, across-back, zero-start}
-use Rattle.sides.specs.Filled.{Sides}
-use Rattle.sides.specs.Marks.{mark}
-use Rattle.sides.specs.Walked.{noted, Walks, Fresh, Told, Walked}
+use Rattle.table.specs.Between.{Rowed}
+use Rattle.near.specs.Between.{Near, OtherTwo}
+use Rattle.near.proofs.PlaceLaws.{Across, place-0, all-one, node-lt, at-taxon, at-inner}
+use Rattle.near.proofs.PlaceLaws.{across-first, across-second, across-zero, across-touch}
+use Rattle.near.proofs.PlaceLaws.{across-back, zero-start}
+use Rattle.sides.specs.Between.{Sides, mark, noted, Walks, Fresh, Told, Walked}
 use Rattle.sides.proofs.FillLaws.{two, union, filled-one, filled-two, all-sides}
-use Rattle.sides.proofs.MarkLaws.{left, left-set, mark-same, mark-other, mark-kept, mark-none, spread-none, spread-both, visited-already, visited-of, marks-reached}
+use Rattle.sides.proofs.MarkLaws.{left, left-set, mark-same, mark-other, mark-kept}
+use Rattle.sides.proofs.MarkLaws.{mark-none, spread-none, spread-both, visited-already}
+use Rattle.sides.proofs.MarkLaws.{visited-of, marks-reached}
 
 -- ---- what is stored is the side
-pub noted-side : (n : ℕ) (t : List ℕ) (e v s : ℕ) → EndOf n t e v → s ≡ part n t e v % 2 ^ n → noted n t e v s ≡ side n t e
+pub noted-side : (n : ℕ) (t : List ℕ) (e v s : ℕ) → EndOf n t e v → s ≡ part n t e v % 2 ^ n
+    → noted n t e v s ≡ side n t e
 noted-side n t e v s A h = go (either (eqb (lo t e) v))
   where
     go : (eqb (lo t e) v ≡ true) ⊎ (eqb (lo t e) v ≡ false) → noted n t e v s ≡ side n t e
-    go (inl w) = ap (λ (b : Bool). pick b s (less (full n) s)) w ∙ h ∙ side-lo A (eqb-true (lo t e) v w)
-    go (inr w) = ap (λ (b : Bool). pick b s (less (full n) s)) w ∙ ap (less (full n)) h ∙ side-hi A (eqb-false (lo t e) v w)
+    go (inl w) = ap (λ (b : Bool). pick b s (less (full n) s)) w ∙ h
+        ∙ side-lo A (eqb-true (lo t e) v w)
+    go (inr w) = ap (λ (b : Bool). pick b s (less (full n) s)) w ∙ ap (less (full n)) h
+        ∙ side-hi A (eqb-false (lo t e) v w)
 
 -- ---- no node hangs by both of two rows at a node
-module _ (n : ℕ) (t : List ℕ) (e v f g : ℕ) (vt : Valid n t) (le : e < rows n) (te : touches t e v ≡ true) (inner : n ≤ v) (K : Pair n t e v f g) where
+module _ (n : ℕ) (t : List ℕ) (e v f g : ℕ) (vt : Valid n t) (le : e < rows n)
+    (te : touches t e v ≡ true) (inner : n ≤ v) (K : Pair n t e v f g) where
   abbrev F : ℕ
   F = part n t f (far t f v)
 
@@ -65,13 +71,17 @@ module _ (n : ℕ) (t : List ℕ) (e v f g : ℕ) (vt : Valid n t) (le : e < row
 
   at-x : both (far t f v) ≡ false
   at-x =
-      let out : has G (far t f v) ≡ false = sym (flat-join t f v (far t f v) (has G) (fork n t e v f g vt le te inner K .x-row) (hang-g n t e v f g vt le te inner K .parts .closed f (K .f-lt) f-not-g))
+      let out : has G (far t f v) ≡ false =
+      sym (flat-join t f v (far t f v) (has G) (fork n t e v f g vt le te inner K .x-row)
+      (hang-g n t e v f g vt le te inner K .parts .closed f (K .f-lt) f-not-g))
       ∙ hang-g n t e v f g vt le te inner K .out in
       both-at (far t f v) (has F (far t f v)) false refl out ∙ not-both (has F (far t f v))
 
   at-y : both (far t g v) ≡ false
   at-y =
-      let out : has F (far t g v) ≡ false = sym (flat-join t g v (far t g v) (has F) (fork n t e v f g vt le te inner K .f-row) (hang-f n t e v f g vt le te inner K .parts .closed g (K .g-lt) (λ w. f-not-g (sym w))))
+      let out : has F (far t g v) ≡ false =
+      sym (flat-join t g v (far t g v) (has F) (fork n t e v f g vt le te inner K .f-row)
+      (hang-f n t e v f g vt le te inner K .parts .closed g (K .g-lt) (λ w. f-not-g (sym w))))
       ∙ hang-f n t e v f g vt le te inner K .out in
       both-at (far t g v) false (has G (far t g v)) out refl
 
@@ -79,21 +89,32 @@ module _ (n : ℕ) (t : List ℕ) (e v f g : ℕ) (vt : Valid n t) (le : e < row
   unfolding both
   flat r lr = go (either (eqb r f)) (either (eqb r g))
     where
-      go : (eqb r f ≡ true) ⊎ (eqb r f ≡ false) → (eqb r g ≡ true) ⊎ (eqb r g ≡ false) → both (lo t r) ≡ both (hi t r)
-      go (inl w) q = rw (eqb-true r f w) (join-flat t f v (far t f v) both (fork n t e v f g vt le te inner K .x-row) (at-v ∙ sym at-x))
-      go (inr w) (inl q) = rw (eqb-true r g q) (join-flat t g v (far t g v) both (fork n t e v f g vt le te inner K .f-row) (at-v ∙ sym at-y))
-      go (inr w) (inr q) = ap₂ _&&_ (hang-f n t e v f g vt le te inner K .parts .closed r lr (eqb-false r f w)) (hang-g n t e v f g vt le te inner K .parts .closed r lr (eqb-false r g q))
+      go : (eqb r f ≡ true) ⊎ (eqb r f ≡ false) → (eqb r g ≡ true) ⊎ (eqb r g ≡ false)
+          → both (lo t r) ≡ both (hi t r)
+      go (inl w) q = rw (eqb-true r f w)
+          (join-flat t f v (far t f v) both (fork n t e v f g vt le te inner K .x-row)
+          (at-v ∙ sym at-x))
+      go (inr w) (inl q) = rw (eqb-true r g q)
+          (join-flat t g v (far t g v) both (fork n t e v f g vt le te inner K .f-row)
+          (at-v ∙ sym at-y))
+      go (inr w) (inr q) = ap₂ _&&_
+          (hang-f n t e v f g vt le te inner K .parts .closed r lr (eqb-false r f w))
+          (hang-g n t e v f g vt le te inner K .parts .closed r lr (eqb-false r g q))
 
   pub not-in-both : (u : ℕ) → u < nodes n → has F u ≡ true → has G u ≡ true → ⊥
   not-in-both u lu hf hg =
-      true≢false (sym (both-at u true true hf hg) ∙ one-colour n t both (vt .connected) flat u v lu (fork n t e v f g vt le te inner K .p-lt) ∙ at-v)
+      true≢false (sym (both-at u true true hf hg)
+      ∙ one-colour n t both (vt .connected) flat u v lu
+      (fork n t e v f g vt le te inner K .p-lt) ∙ at-v)
 
   -- what hangs by either lies with v, and v itself hangs by neither
   pub in-first : (u : ℕ) → u < nodes n → has F u ≡ true → has (part n t e v) u ≡ true
-  in-first u lu h = node-side n t e v f g vt le te inner K u lu ∙ or-left (has F u || has G u) (eqb v u) (or-left (has F u) (has G u) h)
+  in-first u lu h = node-side n t e v f g vt le te inner K u lu
+      ∙ or-left (has F u || has G u) (eqb v u) (or-left (has F u) (has G u) h)
 
   pub in-second : (u : ℕ) → u < nodes n → has G u ≡ true → has (part n t e v) u ≡ true
-  in-second u lu h = node-side n t e v f g vt le te inner K u lu ∙ or-left (has F u || has G u) (eqb v u) (or-right (has F u) (has G u) h)
+  in-second u lu h = node-side n t e v f g vt le te inner K u lu
+      ∙ or-left (has F u || has G u) (eqb v u) (or-right (has F u) (has G u) h)
 
   pub not-first : (u : ℕ) → has F u ≡ true → u ≡ v → ⊥
   not-first u h w = true≢false (sym h ∙ ap (has F) w ∙ hang-f n t e v f g vt le te inner K .out)
@@ -102,7 +123,9 @@ module _ (n : ℕ) (t : List ℕ) (e v f g : ℕ) (vt : Valid n t) (le : e < row
   not-second u h w = true≢false (sym h ∙ ap (has G) w ∙ hang-g n t e v f g vt le te inner K .out)
 
 -- ---- going on across a row at a marked node
-pub walks-on : (n : ℕ) (t near ms ss : List ℕ) (v r x : ℕ) → Rowed n t → Near n t near → Across n t v r → fromZero n t v ≡ true → mark ms v ≡ true → length ms ≡ nodes most → length ss ≡ rows most
+pub walks-on : (n : ℕ) (t near ms ss : List ℕ) (v r x : ℕ) → Rowed n t → Near n t near
+    → Across n t v r → fromZero n t v ≡ true → mark ms v ≡ true → length ms ≡ nodes most
+    → length ss ≡ rows most
     → x ≡ far t r v → Walks n t near ms ss r x
 walks-on n t near ms ss v r x R N A z m lm ls ex = rw ex (record {
   rowed = R;
@@ -155,14 +178,19 @@ module _ {n : ℕ} {t near ms ss : List ℕ} {e v : ℕ} (W : Walks n t near ms 
         go (inl w) = eqb-true u v w
         go (inr w) = absurd (true≢false (sym b ∙ mark-other ms v u (eqb-false u v w) ∙ a))
 
-    pub walked-taxon : {s : ℕ} {ss′ : List ℕ} → v < n → s ≡ 2 ^ v → ss′ ≡ set ss e (noted n t e v s) → Walked n t e v ms (set ms v 1) ss ss′ s
+    pub walked-taxon : {s : ℕ} {ss′ : List ℕ} → v < n → s ≡ 2 ^ v → ss′ ≡ set ss e (noted n t e v s)
+        → Walked n t e v ms (set ms v 1) ss ss′ s
     walked-taxon {s} {ss′} l es ed = record {
-      visited = visited-of n t v ms (set ms v 1) v-room (W .reached) h (spread-none n t (set ms v 1))
-          (at-taxon n t near e v (W .rowed) (W .near) (W .row) (W .touch) l (λ r. mark (set ms v 1) (far t r v) ≡ true) (mark-kept ms v (far t e v) v-room (W .behind)));
+      visited = visited-of n t v ms (set ms v 1) v-room (W .reached) h
+          (spread-none n t (set ms v 1))
+          (at-taxon n t near e v (W .rowed) (W .near) (W .row) (W .touch) l
+          (λ r. mark (set ms v 1) (far t r v) ≡ true)
+          (mark-kept ms v (far t e v) v-room (W .behind)));
       len = ap length ed ∙ length-set ss e (noted n t e v s);
       told = λ good fresh.
           let A = at-end good in
-          let es′ : s ≡ part n t e v % 2 ^ n = es ∙ taxa-one n t e v (good .valid) l (W .row) (W .touch) in
+          let es′ : s ≡ part n t e v % 2 ^ n =
+          es ∙ taxa-one n t e v (good .valid) l (W .row) (W .touch) in
           record {
             taxa = es′;
             filled = filled-one A l sides-room (ed ∙ ap (set ss e) (noted-side n t e v s A es′));
@@ -172,10 +200,12 @@ module _ {n : ℕ} {t near ms ss : List ℕ} {e v : ℕ} (W : Walks n t near ms 
 
     module _ {f g : ℕ} (inner : n ≤ v) (o : OtherTwo e near v f g) where
       A-first : Across n t v f
-      A-first = across-first n t near e v (W .rowed) (W .near) (W .row) (W .touch) inner f g (o .first) (o .second)
+      A-first = across-first n t near e v (W .rowed) (W .near) (W .row) (W .touch) inner f g
+          (o .first) (o .second)
 
       A-second : Across n t v g
-      A-second = across-second n t near e v (W .rowed) (W .near) (W .row) (W .touch) inner f g (o .first) (o .second)
+      A-second = across-second n t near e v (W .rowed) (W .near) (W .row) (W .touch) inner f g
+          (o .first) (o .second)
 
       pub first-room : 2 * f + 1 < length t
       first-room = omega (arith, A-first .row, W .rowed .ordered .len)
@@ -183,19 +213,26 @@ module _ {n : ℕ} {t near ms ss : List ℕ} {e v : ℕ} (W : Walks n t near ms 
       pub second-room : 2 * g + 1 < length t
       second-room = omega (arith, A-second .row, W .rowed .ordered .len)
 
-    module _ {f g x y : ℕ} (inner : n ≤ v) (o : OtherTwo e near v f g) (ex : x ≡ far t f v) (ey : y ≡ far t g v) where
+    module _ {f g x y : ℕ} (inner : n ≤ v) (o : OtherTwo e near v f g) (ex : x ≡ far t f v)
+        (ey : y ≡ far t g v) where
       pub walks-first : Walks n t near (set ms v 1) ss f x
-      walks-first = walks-on n t near (set ms v 1) ss v f x (W .rowed) (W .near) (A-first inner o) (W .reached) (mark-same ms v v-room) (length-set ms v 1 ∙ W .for-marks) (W .for-sides) ex
+      walks-first = walks-on n t near (set ms v 1) ss v f x (W .rowed) (W .near) (A-first inner o)
+          (W .reached) (mark-same ms v v-room) (length-set ms v 1 ∙ W .for-marks) (W .for-sides) ex
 
       module _ {ms₁ ss₁ : List ℕ} {p : ℕ} (P : Walked n t f x (set ms v 1) ms₁ ss ss₁ p) where
         pub walks-second : Walks n t near ms₁ ss₁ g y
-        walks-second = walks-on n t near ms₁ ss₁ v g y (W .rowed) (W .near) (A-second inner o) (W .reached) (P .visited .spread .more v (mark-same ms v v-room))
+        walks-second = walks-on n t near ms₁ ss₁ v g y (W .rowed) (W .near) (A-second inner o)
+            (W .reached) (P .visited .spread .more v (mark-same ms v v-room))
             (P .visited .spread .len ∙ length-set ms v 1 ∙ W .for-marks) (P .len ∙ W .for-sides) ey
 
-        module _ {ms₂ ss₂ ss₃ : List ℕ} {q s : ℕ} (Q : Walked n t g y ms₁ ms₂ ss₁ ss₂ q) (es : s ≡ bitOr p q) (ed : ss₃ ≡ set ss₂ e (noted n t e v s)) where
+        module _ {ms₂ ss₂ ss₃ : List ℕ} {q s : ℕ} (Q : Walked n t g y ms₁ ms₂ ss₁ ss₂ q)
+            (es : s ≡ bitOr p q) (ed : ss₃ ≡ set ss₂ e (noted n t e v s)) where
           all-marked : (r : ℕ) → r < rows n → touches t r v ≡ true → mark ms₂ (far t r v) ≡ true
-          all-marked = at-inner n t near e v (W .rowed) (W .near) (W .row) (W .touch) inner f g (o .first) (o .second) (λ r. mark ms₂ (far t r v) ≡ true)
-              (Q .visited .spread .more (far t e v) (P .visited .spread .more (far t e v) (mark-kept ms v (far t e v) v-room (W .behind))))
+          all-marked = at-inner n t near e v (W .rowed) (W .near) (W .row) (W .touch) inner f g
+              (o .first) (o .second) (λ r. mark ms₂ (far t r v) ≡ true)
+              (Q .visited .spread .more (far t e v)
+              (P .visited .spread .more (far t e v)
+              (mark-kept ms v (far t e v) v-room (W .behind))))
               (Q .visited .spread .more (far t f v) (ap (mark ms₁) (sym ex) ∙ P .visited .here))
               (ap (mark ms₂) (sym ey) ∙ Q .visited .here)
 
@@ -211,8 +248,11 @@ module _ {n : ℕ} {t near ms ss : List ℕ} {e v : ℕ} (W : Walks n t near ms 
 
             fresh-first : Fresh n t f x (set ms v 1)
             fresh-first u lu m =
-                let m′ : has (part n t f (far t f v)) u ≡ true = ap (λ (z : ℕ). has (part n t f z) u) (sym ex) ∙ m in
-                still u (not-first n t e v f g (good .valid) (W .row) (W .touch) inner K u m′) (fresh u lu (in-first n t e v f g (good .valid) (W .row) (W .touch) inner K u lu m′))
+                let m′ : has (part n t f (far t f v)) u ≡ true =
+                ap (λ (z : ℕ). has (part n t f z) u) (sym ex) ∙ m in
+                still u (not-first n t e v f g (good .valid) (W .row) (W .touch) inner K u m′)
+                (fresh u lu (in-first n t e v f g (good .valid) (W .row) (W .touch) inner K u lu
+                m′))
 
             T : Told n t f x (set ms v 1) ms₁ ss ss₁ p
             T = P .told good fresh-first
@@ -224,41 +264,55 @@ module _ {n : ℕ} {t near ms ss : List ℕ} {e v : ℕ} (W : Walks n t near ms 
                 m′ = ap (λ (z : ℕ). has (part n t g z) u) (sym ey) ∙ m
 
                 before : mark (set ms v 1) u ≡ false
-                before = still u (not-second n t e v f g (good .valid) (W .row) (W .touch) inner K u m′) (fresh u lu (in-second n t e v f g (good .valid) (W .row) (W .touch) inner K u lu m′))
+                before = still u (not-second n t e v f g (good .valid) (W .row) (W .touch) inner K u
+                    m′) (fresh u lu (in-second n t e v f g (good .valid) (W .row) (W .touch) inner K
+                    u lu m′))
 
                 go : (mark ms₁ u ≡ true) ⊎ (mark ms₁ u ≡ false) → mark ms₁ u ≡ false
-                go (inl w) = absurd (not-in-both n t e v f g (good .valid) (W .row) (W .touch) inner K u lu (ap (λ (z : ℕ). has (part n t f z) u) (sym ex) ∙ T .within u lu before w) m′)
+                go (inl w) = absurd (not-in-both n t e v f g (good .valid) (W .row) (W .touch) inner
+                    K u lu (ap (λ (z : ℕ). has (part n t f z) u) (sym ex) ∙ T .within u lu before w)
+                    m′)
                 go (inr w) = w
 
             U : Told n t g y ms₁ ms₂ ss₁ ss₂ q
             U = Q .told good fresh-second
 
-            with-v : (u : ℕ) → u < nodes n → mark ms u ≡ false → mark ms₂ u ≡ true → has (part n t e v) u ≡ true
+            with-v : (u : ℕ) → u < nodes n → mark ms u ≡ false → mark ms₂ u ≡ true
+                → has (part n t e v) u ≡ true
             with-v u lu a b = go (either (mark ms₁ u)) (either (mark (set ms v 1) u))
               where
-                go : (mark ms₁ u ≡ true) ⊎ (mark ms₁ u ≡ false) → (mark (set ms v 1) u ≡ true) ⊎ (mark (set ms v 1) u ≡ false) → has (part n t e v) u ≡ true
-                go (inr c) d = in-second n t e v f g (good .valid) (W .row) (W .touch) inner K u lu (ap (λ (z : ℕ). has (part n t g z) u) (sym ey) ∙ U .within u lu c b)
-                go (inl c) (inr d) = in-first n t e v f g (good .valid) (W .row) (W .touch) inner K u lu (ap (λ (z : ℕ). has (part n t f z) u) (sym ex) ∙ T .within u lu d c)
+                go : (mark ms₁ u ≡ true) ⊎ (mark ms₁ u ≡ false)
+                    → (mark (set ms v 1) u ≡ true) ⊎ (mark (set ms v 1) u ≡ false)
+                    → has (part n t e v) u ≡ true
+                go (inr c) d = in-second n t e v f g (good .valid) (W .row) (W .touch) inner K u lu
+                    (ap (λ (z : ℕ). has (part n t g z) u) (sym ey) ∙ U .within u lu c b)
+                go (inl c) (inr d) = in-first n t e v f g (good .valid) (W .row) (W .touch) inner K
+                    u lu (ap (λ (z : ℕ). has (part n t f z) u) (sym ex) ∙ T .within u lu d c)
                 go (inl c) (inl d) = ap (has (part n t e v)) (new-mark u a d) ∙ part-start n t e v
 
             told-both : Told n t e v ms ms₂ ss ss₃ s
             told-both =
-                let es′ : s ≡ part n t e v % 2 ^ n = es ∙ union A inner K ex ey (T .taxa) (U .taxa) in
+                let es′ : s ≡ part n t e v % 2 ^ n =
+                es ∙ union A inner K ex ey (T .taxa) (U .taxa) in
                 record {
                   taxa = es′;
-                  filled = filled-two A inner K ex ey sides-room (T .filled) (U .filled) (ed ∙ ap (set ss₂ e) (noted-side n t e v s A es′));
+                  filled = filled-two A inner K ex ey sides-room (T .filled) (U .filled)
+                      (ed ∙ ap (set ss₂ e) (noted-side n t e v s A es′));
                   within = with-v;
                 }
 
           pub walked-inner : Walked n t e v ms ms₂ ss ss₃ s
           walked-inner = record {
-            visited = visited-of n t v ms ms₂ v-room (W .reached) h (spread-both n t (set ms v 1) ms₁ ms₂ (P .visited .spread) (Q .visited .spread)) all-marked;
+            visited = visited-of n t v ms ms₂ v-room (W .reached) h
+                (spread-both n t (set ms v 1) ms₁ ms₂ (P .visited .spread) (Q .visited .spread))
+                all-marked;
             len = ap length ed ∙ length-set ss₂ e (noted n t e v s) ∙ Q .len ∙ P .len;
             told = told-both;
           }
 
 -- ---- from taxon 0
-module _ {n : ℕ} {t near : List ℕ} {e : ℕ} (R : Rowed n t) (N : Near n t near) (ee : e ≡ getD near (3 * 0 + 0) 0) where
+module _ {n : ℕ} {t near : List ℕ} {e : ℕ} (R : Rowed n t) (N : Near n t near)
+    (ee : e ≡ getD near (3 * 0 + 0) 0) where
   abbrev none : List ℕ
   none = replicate (nodes most) 0
 
@@ -272,19 +326,24 @@ module _ {n : ℕ} {t near : List ℕ} {e : ℕ} (R : Rowed n t) (N : Near n t n
     pub walks-start : length ss ≡ rows most → Walks n t near (set none 0 1) ss e v
     walks-start ls =
         let lm = length-set none 0 1 ∙ length-replicate {A = ℕ} (nodes most) 0 in
-        walks-on n t near (set none 0 1) ss 0 e v R N zero-row (zero-start n t R) (mark-same none 0 zero-room) lm ls ev
+        walks-on n t near (set none 0 1) ss 0 e v R N zero-row (zero-start n t R)
+        (mark-same none 0 zero-room) lm ls ev
 
     module _ {ms′ ss′ : List ℕ} {s : ℕ} (P : Walked n t e v (set none 0 1) ms′ ss ss′ s) where
       pub start-reached : every (mark ms′) (nodes n) ≡ every (fromZero n t) (nodes n)
       start-reached =
           marks-reached n t R none ms′ mark-none
           (visited-of n t 0 none ms′ zero-room (zero-start n t R) (mark-none 0) (P .visited .spread)
-          (all-one n t near 0 R N (omega (arith, R .ordered .big)) (λ r. mark ms′ (far t r 0) ≡ true) e ee (ap (mark ms′) (sym ev) ∙ P .visited .here)))
+          (all-one n t near 0 R N (omega (arith, R .ordered .big))
+          (λ r. mark ms′ (far t r 0) ≡ true) e ee (ap (mark ms′) (sym ev) ∙ P .visited .here)))
 
       pub start-sides : length ss ≡ rows most → Accepted n t → Sides n t ss′
       start-sides ls good = all-sides n t near e v good N ee ev ls (P .told good fresh .filled)
         where
           fresh : Fresh n t e v (set none 0 1)
           fresh u lu m =
-              let out : has (part n t e (far t e 0)) 0 ≡ false = hangs n t e 0 (far t e 0) (good .valid) (zero-row .row) (touch-joins t e 0 (zero-row .at)) .out in
-              mark-other none 0 u (λ w. true≢false (sym m ∙ ap₂ (λ (z i : ℕ). has (part n t e z) i) ev w ∙ out)) ∙ mark-none u
+              let out : has (part n t e (far t e 0)) 0 ≡ false =
+              hangs n t e 0 (far t e 0) (good .valid) (zero-row .row)
+              (touch-joins t e 0 (zero-row .at)) .out in
+              mark-other none 0 u (λ w. true≢false
+              (sym m ∙ ap₂ (λ (z i : ℕ). has (part n t e z) i) ev w ∙ out)) ∙ mark-none u

@@ -5,11 +5,10 @@ ghost use mathlib.Core.Path.{_≡_};
 ghost use lib.ListN.{length, set};
 ghost use Rattle.taxa.specs.Most.{most};
 ghost use Rattle.tree.specs.Tree.{rows, nodes, every};
-ghost use Rattle.table.specs.Rowed.{HasRow, Rowed};
-ghost use Rattle.near.specs.Near.{noRows, Near};
-ghost use Rattle.sides.specs.Marks.{mark};
+ghost use Rattle.table.specs.Between.{HasRow, Rowed};
+ghost use Rattle.near.specs.Between.{noRows, Near};
+ghost use Rattle.sides.specs.Between.{mark, noted, Walks, Walked, Reached, Found};
 ghost use Rattle.sides.specs.Promises.{Checks};
-ghost use Rattle.sides.specs.Walked.{noted, Walks, Walked, Reached, Found};
 use calls::Refusal;
 use table::Checked;
 

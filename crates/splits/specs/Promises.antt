@@ -4,7 +4,6 @@ use mathlib.Core.List.{List, _++_}
 use lib.ListN.{length}
 use Rattle.calls.specs.Calls.{Said, gives, refuses, judged, Call, Answers, tells, asSaid, atStart}
 use Rattle.tree.specs.Editions.{Edition, narrow}
-use Rattle.tree.specs.Lists.{lacks, firstLack}
 use Rattle.tree.specs.Splits.{splits, dist, missing}
 use Rattle.tree.specs.Refusals.{treeChecksOf, tableChecksOf, partitionChecks, roomChecks}
 use Rattle.splits.specs.declared.Induced.{Induced}
@@ -37,12 +36,9 @@ Induces n t y out r out′ =
 -- ---- the comparison
 
 -- The distance of two trees over y, and the smallest split of the first that
--- the second lacks; the same of the lists of their splits.
+-- the second lacks.
 abbrev pub treesApart : ℕ → List ℕ → List ℕ → ℕ → ℕ × ℕ
 treesApart n t u y = (dist n t u y, missing n t u y)
-
-abbrev pub listsApart : List ℕ → List ℕ → ℕ × ℕ
-listsApart a b = (lacks a b + lacks b a, firstLack a b)
 
 -- These two, or the first refusal: 1, 2 to 5 of the first tree, 2 to 5 of the
 -- second, 6.

@@ -2,15 +2,12 @@
 // trees.
 ghost use Prim.Native.Nat.{_^_, _<_, _≤_};
 ghost use mathlib.Core.Path.{_≡_};
-ghost use lib.ListN.{length, take};
 ghost use Rattle.taxa.specs.Most.{most};
-ghost use Rattle.taxa.specs.Sets.{lowest};
 ghost use Rattle.tree.specs.Splits as spec;
 ghost use Rattle.calls.specs.Calls.{gives};
-ghost use Rattle.sides.specs.Filled.{Sided};
-ghost use Rattle.lists.specs.Listed.{RoomFor, Listed};
-ghost use Rattle.splits.specs.Listed.{added, rowSplits, SplitList};
-ghost use Rattle.splits.specs.Promises.{listsApart, treesApart, Induces, compareSays, Compares};
+ghost use Rattle.sides.specs.Between.{Sided};
+ghost use Rattle.splits.specs.Between.{SplitList, listsApart};
+ghost use Rattle.splits.specs.Promises.{treesApart, Induces, compareSays, Compares};
 use calls::Refusal;
 use table::Checked;
 
@@ -27,59 +24,6 @@ pub enum Compared {
     Refused(Refusal),
 }
 
-// The number of the split over y that s makes; low is the lowest taxon of y.
-fn number(low: usize, y: u64, s: u64) -> u64
-    requires { ⌜ (low ≡ lowest most y) × (low < most) ⌝ }
-    ensures { λ x. ⌜ x ≡ spec.split most y s ⌝ }
-{
-    let inside = s & y;
-    let outside = taxa::less(y, s);
-    let own = taxa::size(inside);
-    let other = taxa::size(outside);
-    if own < other {
-        return inside;
-    }
-    if other < own {
-        return outside;
-    }
-    if taxa::has(s, low) {
-        return outside;
-    }
-    inside
-}
-
-// Puts the number x into the first len of out, unless it is 0; the new count.
-fn add(out: &mut [u64], len: usize, x: u64) -> usize
-    requires { let o = now out in ⌜ (len ≤ length o) × (RoomFor (added x (take len o)) o) ⌝ }
-    ensures { λ r. let o = now (out .entry) in ⌜ Listed (added x (take len o)) o r (now (out .exit)) ⌝ }
-{
-    if x == 0 {
-        return len;
-    }
-    lists::insert(out, len, x)
-}
-
-// Lists the splits over y of the rows whose sides are given; how many there
-// are.
-fn list(n: usize, sides: &[u64; sides::ROWS], y: u64, out: &mut [u64]) -> usize
-    requires { ⌜ (4 ≤ n) × (n ≤ most) × (y < 2 ^ n) × (RoomFor (rowSplits n y (now sides)) (now out)) ⌝ }
-    ensures { λ r. ⌜ Listed (rowSplits n y (now (sides .entry))) (now (out .entry)) r (now (out .exit)) ⌝ }
-{
-    if y == 0 {
-        return 0;
-    }
-    let low = taxa::lowest(y);
-    let m = 2 * n - 3;
-    let mut len: usize = 0;
-    let mut i: usize = 0;
-    while i < m {
-        let x = number(low, y, sides[i]);
-        len = add(out, len, x);
-        i += 1;
-    }
-    len
-}
-
 // How many induced splits a tree has over a partition of m taxa.
 fn members(m: usize) -> usize
     requires { ⌜ m ≤ most ⌝ }
@@ -89,16 +33,6 @@ fn members(m: usize) -> usize
         return 0;
     }
     2 * m - 3
-}
-
-// Lists the induced splits over y of the tree t, whose sides are s; how many
-// there are. The sides are all that is read; t is what the promise speaks of.
-fn tree_splits(n: usize, t: &[u8], s: &[u64; sides::ROWS], y: u64, out: &mut [u64]) -> usize
-    requires { let t = now t in
-        ⌜ (Sided n t (now s)) × (y < 2 ^ n) × (RoomFor (spec.splits n t y) (now out)) ⌝ }
-    ensures { λ r. ⌜ Listed (spec.splits n (now (t .entry)) y) (now (out .entry)) r (now (out .exit)) ⌝ }
-{
-    list(n, s, y, out)
 }
 
 // The same where the partition names none but the n taxa and the room
@@ -114,7 +48,7 @@ fn induced_tree(n: usize, t: &[u8], s: &[u64; sides::ROWS], y: u64, out: &mut [u
     if out.len() < members(m) {
         return Induced::Refused(Refusal::Room);
     }
-    Induced::Count(tree_splits(n, t, s, y, out))
+    Induced::Count(split_lists::tree_splits(n, t, s, y, out))
 }
 
 // The induced splits of a tree over y, ascending, each once, written into out:
@@ -157,8 +91,8 @@ fn compare_trees(
 {
     let mut first = [0u64; sides::ROWS];
     let mut second = [0u64; sides::ROWS];
-    let i = tree_splits(n, t, a, y, &mut first);
-    let j = tree_splits(n, u, b, y, &mut second);
+    let i = split_lists::tree_splits(n, t, a, y, &mut first);
+    let j = split_lists::tree_splits(n, u, b, y, &mut second);
     compare_lists(&first[..i], &second[..j])
 }
 

@@ -1,8 +1,15 @@
 // Steps over the table's field of a job, with more or less memory lent for the
-// table, run: for each what is wrong, how many bytes were lent, whether they
-// are as they were, and the answer.
-use job::State;
-use job::Stepped;
+// table, run on the cases of standard input: for each what is wrong, how many
+// bytes were lent, whether they are as they were, and the answer.
+use case_lines::first;
+use case_lines::size;
+use case_lines::title;
+use case_lines::word;
+use case_lists::LONG;
+use case_lists::bytes;
+use case_lists::marked;
+use jobs::State;
+use jobs::Stepped;
 use prints::kept;
 use prints::line;
 use prints::number;
@@ -11,46 +18,6 @@ use prints::say;
 
 // A byte that the lent memory holds before a step, and no table of six taxa.
 const MARK: u8 = 200;
-
-// A job's count of six taxa and its table, tree S.
-const JOB: [u8; 25] = [
-    1,
-    0,
-    1,
-    6,
-    2,
-    0,
-    18,
-    0,
-    6,
-    1,
-    6,
-    6,
-    7,
-    2,
-    7,
-    7,
-    8,
-    3,
-    8,
-    8,
-    9,
-    4,
-    9,
-    5,
-    9,
-];
-
-// Whether each byte is the mark.
-fn untouched(table: &[u8]) -> bool {
-    let mut bad: u8 = 0;
-    let mut i: usize = 0;
-    while i < table.len() {
-        bad |= (table[i] != MARK) as u8;
-        i += 1;
-    }
-    bad == 0
-}
 
 // Says a step's answer.
 fn tell(answer: Stepped) {
@@ -89,36 +56,42 @@ fn lend(words: &[u8], job: &[u8], table: &mut [u8]) {
     say(table.len() as u64);
     put(b"bytes lent: ");
     let answer = job::step(job, s, table, &mut parts, &mut out);
-    kept(untouched(table));
+    kept(marked(table, MARK, 0));
     tell(answer);
 }
 
-// The step with one byte too few, exactly enough, and room for any table.
-fn rooms(words: &[u8], job: &[u8]) {
-    let mut few = [MARK; 17];
-    lend(words, job, &mut few);
-    let mut enough = [MARK; 18];
-    lend(words, job, &mut enough);
-    let mut any = [MARK; 250];
-    lend(words, job, &mut any);
+// A case `step ROOM BYTES TITLE`.
+fn on_job(l: &[u8], job: &[u8]) {
+    let room = size(l, 1);
+    let mut table = [MARK; jobs::TABLE];
+    if room <= jobs::TABLE {
+        lend(title(l, 3), job, &mut table[..room]);
+    }
 }
 
-// Each fault of the field in turn, in the order of the checks; then none.
+// Runs the case in a line.
+fn case(input: &[u8], l: &[u8]) {
+    let mut j = [0u8; LONG];
+    let long = bytes(input, word(l, 2), &mut j);
+    on_job(l, first(&j, long));
+}
+
+// Runs the cases in their order.
+fn run(input: &[u8]) {
+    let m = case_lines::lines(input);
+    let mut k: usize = 0;
+    while k < m {
+        let l = case_lines::line(input, k);
+        if case_lines::is_case(l) {
+            case(input, l);
+        }
+        k += 1;
+    }
+}
+
+// Reads the cases and runs them.
 fn main() {
-    let mut tag = JOB;
-    tag[4] = 9;
-    rooms(b"tag 9", &tag);
-    rooms(b"no length", &JOB[..6]);
-    let mut stated = JOB;
-    stated[6] = 17;
-    rooms(b"a stated length of 17", &stated);
-    rooms(b"cut short", &JOB[..24]);
-    let mut turned = JOB;
-    turned[7] = 6;
-    turned[8] = 0;
-    rooms(b"a turned row", &turned);
-    let mut twice = JOB;
-    twice[7] = 1;
-    rooms(b"taxon 1 at two rows", &twice);
-    rooms(b"a tree", &JOB);
+    let mut input = io::large_buffer();
+    let got = case_lines::read(&mut input);
+    run(first(&input, got));
 }

@@ -24,9 +24,15 @@ or-none a b =
     (eq-eqb a 0 (omega (arith, z, or-add-and a b, and-le-r a b)))
     (eq-eqb b 0 (omega (arith, z, or-add-and a b, and-le-l a b))))
     (λ h. eq-eqb (bitOr a b) 0
-    (omega (arith, or-add-and a b, eqb-true a 0 (and-left (eqb a 0) (eqb b 0) h), eqb-true b 0 (and-right (eqb a 0) (eqb b 0) h))))
+    (omega (
+      arith,
+      or-add-and a b,
+      eqb-true a 0 (and-left (eqb a 0) (eqb b 0) h),
+      eqb-true b 0 (and-right (eqb a 0) (eqb b 0) h),
+    )))
 
 -- one test more, as a loop gathers it
-pub gather-more : (f : ℕ → Bool) (i a b : ℕ) → eqb a 0 ≡ every f i → eqb b 0 ≡ f i → eqb (bitOr a b) 0 ≡ every f (i + 1)
+pub gather-more : (f : ℕ → Bool) (i a b : ℕ) → eqb a 0 ≡ every f i → eqb b 0 ≡ f i
+    → eqb (bitOr a b) 0 ≡ every f (i + 1)
 unfolding every
 gather-more f i a b h p = rw (add-one i) (or-none a b ∙ ap₂ _&&_ h p)

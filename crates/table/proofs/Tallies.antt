@@ -13,12 +13,14 @@ use borrow.Author.Tests.{eqb-true, eqb-false, ltb-true, ltb-false, leb-true, le-
 use Rattle.taxa.specs.Most.{most}
 use Rattle.taxa.specs.Sets.{pick, tally}
 use Rattle.taxa.proofs.Bools.{either, and-left, and-right, and-both, bool-eq, or-left}
-use Rattle.tree.specs.Tree.{lo, hi, rows, nodes, touches, inOrder, rightDegree, degree, wanted, every, count}
+use Rattle.tree.specs.Tree.{lo, hi, rows, nodes, touches, inOrder, rightDegree, degree, wanted}
+use Rattle.tree.specs.Tree.{every, count}
 use Rattle.tree.proofs.RowCounts.{every-all, all-every, every-same, touch-tally, count-le}
-use Rattle.table.specs.Rowed.{Ordered, Rowed, Counted, hasFrom}
+use Rattle.table.specs.Between.{Ordered, Rowed, Counted, hasFrom}
 
 -- one more at place a
-bump : (d : List ℕ) (a v x : ℕ) → a < length d → x ≡ getD d a 0 + 1 → getD (set d a x) v 0 ≡ getD d v 0 + tally (eqb a v)
+bump : (d : List ℕ) (a v x : ℕ) → a < length d → x ≡ getD d a 0 + 1
+    → getD (set d a x) v 0 ≡ getD d v 0 + tally (eqb a v)
 bump d a v x h e = go (either (eqb a v))
   where
     go : (eqb a v ≡ true) ⊎ (eqb a v ≡ false) → getD (set d a x) v 0 ≡ getD d v 0 + tally (eqb a v)
@@ -42,25 +44,41 @@ module _ (n : ℕ) (t : List ℕ) where
 
     -- no count passes the number of rows, so a byte holds it
     pub lo-fits : getD d (lo t i) 0 < rows n
-    lo-fits = omega (arith, c .at (lo t i) (omega (arith, o .order i li .0, o .order i li .1)), count-le (λ r. touches t r (lo t i)) i)
+    lo-fits = omega (
+      arith,
+      c .at (lo t i) (omega (arith, o .order i li .0, o .order i li .1)),
+      count-le (λ r. touches t r (lo t i)) i,
+    )
 
-    pub counted-more : (a b x y : ℕ) → a ≡ lo t i → b ≡ hi t i → x ≡ getD d a 0 + 1 → y ≡ getD (set d a x) b 0 + 1 → Counted n t (set (set d a x) b y) (i + 1)
+    pub counted-more : (a b x y : ℕ) → a ≡ lo t i → b ≡ hi t i → x ≡ getD d a 0 + 1
+        → y ≡ getD (set d a x) b 0 + 1 → Counted n t (set (set d a x) b y) (i + 1)
     unfolding count
     counted-more a b x y ha hb hx hy = record {
       room = length-set (set d a x) b y ∙ length-set d a x ∙ c .room;
       at = λ v l.
           bump (set d a x) b v y (omega (arith, length-set d a x, hi-room)) hy
           ∙ ap (λ (k : ℕ). k + tally (eqb b v)) (bump d a v x (omega (arith, lo-room)) hx)
-          ∙ rw (add-one i, ha, hb) (omega (arith, c .at v l, touch-tally t i v (λ e. omega (arith, o .order i li .0))));
+          ∙ rw (add-one i, ha, hb) (omega (
+            arith,
+            c .at v l,
+            touch-tally t i v (λ e. omega (arith, o .order i li .0)),
+          ));
     }
 
     pub hi-fits : (a x : ℕ) → a ≡ lo t i → x ≡ getD d a 0 + 1 → getD (set d a x) (hi t i) 0 < rows n
     hi-fits a x ha hx =
-        omega (arith, getD-set-other d a (hi t i) x 0 (λ e. omega (arith, o .order i li .0)), c .at (hi t i) (o .order i li .1), count-le (λ r. touches t r (hi t i)) i)
+        omega (
+          arith,
+          getD-set-other d a (hi t i) x 0 (λ e. omega (arith, o .order i li .0)),
+          c .at (hi t i) (o .order i li .1),
+          count-le (λ r. touches t r (hi t i)) i,
+        )
 
   -- the test of the counts is the test of the degrees
-  pub degrees-test : (d : List ℕ) → Counted n t d (rows n) → every (λ v. eqb (getD d v 0) (wanted n v)) (nodes n) ≡ every (rightDegree n t) (nodes n)
-  degrees-test d c = every-same (λ v. eqb (getD d v 0) (wanted n v)) (rightDegree n t) (nodes n) (λ v l. ap (λ (x : ℕ). eqb x (wanted n v)) (c .at v l))
+  pub degrees-test : (d : List ℕ) → Counted n t d (rows n)
+      → every (λ v. eqb (getD d v 0) (wanted n v)) (nodes n) ≡ every (rightDegree n t) (nodes n)
+  degrees-test d c = every-same (λ v. eqb (getD d v 0) (wanted n v)) (rightDegree n t) (nodes n)
+      (λ v l. ap (λ (x : ℕ). eqb x (wanted n v)) (c .at v l))
 
   pub ordered-of : 4 ≤ n → n ≤ most → length t ≡ 2 * rows n
       → every (inOrder n t) (rows n) ≡ true → Ordered n t
@@ -70,16 +88,25 @@ module _ (n : ℕ) (t : List ℕ) where
     len = l;
     order = λ r h.
         let w = every-all (inOrder n t) (rows n) e r h in (
-          ltb-true (lo t r) (hi t r) (and-left (ltb (lo t r) (hi t r)) (leb (hi t r) (2 * n - 3)) w),
-          omega (arith, leb-true (hi t r) (2 * n - 3) (and-right (ltb (lo t r) (hi t r)) (leb (hi t r) (2 * n - 3)) w)),
+          ltb-true (lo t r) (hi t r)
+              (and-left (ltb (lo t r) (hi t r)) (leb (hi t r) (2 * n - 3)) w),
+          omega (
+            arith,
+            leb-true (hi t r) (2 * n - 3)
+                (and-right (ltb (lo t r) (hi t r)) (leb (hi t r) (2 * n - 3)) w),
+          ),
         );
   }
 
   pub rowed-of : Ordered n t → every (rightDegree n t) (nodes n) ≡ true → Rowed n t
   rowed-of o e = record {
     ordered = o;
-    leaf = λ v a. eqb-true (degree n t v) (wanted n v) (every-all (rightDegree n t) (nodes n) e v (omega (arith, o .big))) ∙ ap (λ (x : Bool). pick x 1 3) (lt-ltb v n a);
-    inner = λ v a b. eqb-true (degree n t v) (wanted n v) (every-all (rightDegree n t) (nodes n) e v b) ∙ ap (λ (x : Bool). pick x 1 3) (le-ltb v n a);
+    leaf = λ v a. eqb-true (degree n t v) (wanted n v)
+        (every-all (rightDegree n t) (nodes n) e v (omega (arith, o .big)))
+        ∙ ap (λ (x : Bool). pick x 1 3) (lt-ltb v n a);
+    inner = λ v a b. eqb-true (degree n t v) (wanted n v)
+        (every-all (rightDegree n t) (nodes n) e v b)
+        ∙ ap (λ (x : Bool). pick x 1 3) (le-ltb v n a);
   }
 
 -- ---- the test of all counts, in two stretches: the taxa, and the inner nodes
@@ -88,25 +115,33 @@ module _ (n : ℕ) (d : List ℕ) where
   right v = eqb (getD d v 0) (wanted n v)
 
   from-low : (v : ℕ) → v < n → right v ≡ hasFrom d 0 1 v
-  from-low v l = ap (λ (p : Bool). eqb (getD d v 0) (pick p 1 3)) (lt-ltb v n l) ∙ ap (λ (p : Bool). p || eqb (getD d v 0) 1) (sym (le-ltb v 0 zero-le))
+  from-low v l = ap (λ (p : Bool). eqb (getD d v 0) (pick p 1 3)) (lt-ltb v n l)
+      ∙ ap (λ (p : Bool). p || eqb (getD d v 0) 1) (sym (le-ltb v 0 zero-le))
 
   from-high : (v : ℕ) → n ≤ v → right v ≡ hasFrom d n 3 v
-  from-high v l = ap (λ (p : Bool). eqb (getD d v 0) (pick p 1 3)) (le-ltb v n l) ∙ ap (λ (p : Bool). p || eqb (getD d v 0) 3) (sym (le-ltb v n l))
+  from-high v l = ap (λ (p : Bool). eqb (getD d v 0) (pick p 1 3)) (le-ltb v n l)
+      ∙ ap (λ (p : Bool). p || eqb (getD d v 0) 3) (sym (le-ltb v n l))
 
   -- each way node by node, by whether the node is a taxon
-  pub two-stretches : (p q : Bool) → p ≡ every (hasFrom d 0 1) n → q ≡ every (hasFrom d n 3) (nodes n) → n ≤ nodes n → every right (nodes n) ≡ (p && q)
+  pub two-stretches : (p q : Bool) → p ≡ every (hasFrom d 0 1) n
+      → q ≡ every (hasFrom d n 3) (nodes n) → n ≤ nodes n → every right (nodes n) ≡ (p && q)
   two-stretches p q e f h =
       bool-eq (every right (nodes n)) (p && q)
       (λ w. and-both p q
-      (e ∙ all-every (hasFrom d 0 1) n (λ v l. sym (from-low v l) ∙ every-all right (nodes n) w v (omega arith)))
-      (f ∙ all-every (hasFrom d n 3) (nodes n) (λ v l. above v (every-all right (nodes n) w v l) (either (ltb v n)))))
+      (e ∙ all-every (hasFrom d 0 1) n (λ v l. sym (from-low v l)
+      ∙ every-all right (nodes n) w v (omega arith)))
+      (f ∙ all-every (hasFrom d n 3) (nodes n)
+      (λ v l. above v (every-all right (nodes n) w v l) (either (ltb v n)))))
       (λ w. all-every right (nodes n) (λ v l. both v
-      (every-all (hasFrom d 0 1) n (sym e ∙ and-left p q w) v) (every-all (hasFrom d n 3) (nodes n) (sym f ∙ and-right p q w) v l) (either (ltb v n))))
+      (every-all (hasFrom d 0 1) n (sym e ∙ and-left p q w) v)
+      (every-all (hasFrom d n 3) (nodes n) (sym f ∙ and-right p q w) v l) (either (ltb v n))))
     where
-      above : (v : ℕ) → right v ≡ true → (ltb v n ≡ true) ⊎ (ltb v n ≡ false) → hasFrom d n 3 v ≡ true
+      above : (v : ℕ) → right v ≡ true → (ltb v n ≡ true) ⊎ (ltb v n ≡ false)
+          → hasFrom d n 3 v ≡ true
       above v w (inl l) = or-left (ltb v n) (eqb (getD d v 0) 3) l
       above v w (inr l) = sym (from-high v (ltb-false v n l)) ∙ w
 
-      both : (v : ℕ) → (v < n → hasFrom d 0 1 v ≡ true) → hasFrom d n 3 v ≡ true → (ltb v n ≡ true) ⊎ (ltb v n ≡ false) → right v ≡ true
+      both : (v : ℕ) → (v < n → hasFrom d 0 1 v ≡ true) → hasFrom d n 3 v ≡ true
+          → (ltb v n ≡ true) ⊎ (ltb v n ≡ false) → right v ≡ true
       both v a b (inl l) = from-low v (ltb-true v n l) ∙ a (ltb-true v n l)
       both v a b (inr l) = from-high v (ltb-false v n l) ∙ b

@@ -7,8 +7,8 @@ ghost use lib.ListN.{length, getD};
 ghost use Rattle.taxa.specs.Most.{most};
 ghost use Rattle.tree.specs.Tree as tree_spec;
 ghost use Rattle.tree.specs.Tree.{rows, nodes, inOrder, every};
-ghost use Rattle.table.specs.Says.{checkSays, rowSaid};
-ghost use Rattle.table.specs.Rowed.{HasRow, Ordered, Counted, hasFrom};
+ghost use Rattle.table.specs.Says.{checkSays};
+ghost use Rattle.table.specs.Between.{rowSaid, HasRow, Ordered, Counted, hasFrom};
 use calls::Refusal;
 
 // The most nodes that a tree has.

@@ -4,7 +4,10 @@ use mathlib.Core.Logic.{_⊎_, inl, inr}
 use mathlib.Core.Bool.{Bool, true, false, not, _&&_, _||_, true≢false, false≢true, or-true}
 
 -- a test passes or not
-pub either : (b : Bool) → (b ≡ true) ⊎ (b ≡ false)
+abbrev pub Either : Bool → Type 0
+Either b = (b ≡ true) ⊎ (b ≡ false)
+
+pub either : (b : Bool) → Either b
 either true = inl refl
 either false = inr refl
 
@@ -55,10 +58,6 @@ or-left p q h = ap (λ (x : Bool). x || q) h
 
 pub or-right : (p q : Bool) → q ≡ true → (p || q) ≡ true
 or-right p q h = ap (λ (x : Bool). p || x) h ∙ or-true p
-
-pub or-assoc : (p q r : Bool) → (p || q || r) ≡ (p || (q || r))
-or-assoc true q r = refl
-or-assoc false q r = refl
 
 pub or-neither : (p q : Bool) → (p || q) ≡ false → (p ≡ false) × (q ≡ false)
 or-neither true q h = absurd (true≢false h)

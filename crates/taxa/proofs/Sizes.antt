@@ -1,8 +1,7 @@
 -- How many members a set has below k. Assumes nothing.
 use mathlib.Core.Path.{_≡_, refl, sym, ap, ap₂, _∙_}
 use mathlib.Core.Logic.{_⊎_, inl, inr}
-use mathlib.Core.Bool.{Bool, true, false, not, _&&_, _||_}
-use mathlib.Core.Bool.{false≢true, or-true, or-false}
+use mathlib.Core.Bool.{Bool, true, false, not, _&&_, _||_, false≢true, or-true, or-false}
 use Prim.Native.Nat.{ℕ, zero, suc, _+_, _^_, _≤_, _<_, zero-le}
 use native.Mathlib.Nat.{le-refl}
 use native.Mathlib.Decide.{le-ind}
@@ -57,23 +56,28 @@ pub size-same : (k a b : ℕ) → Sub a b → size k b ≤ size k a → (i : ℕ
 unfolding size Sub
 size-same zero a b h e i l = absurd (omega arith)
 size-same (suc k) a b h e i l =
-    go (λ l′. size-same k a b h (omega (arith, tally-le (has a k) (has b k) (h k))) i l′) (either (eqb i k))
+    go (λ l′. size-same k a b h (omega (arith, tally-le (has a k) (has b k) (h k))) i l′)
+    (either (eqb i k))
   where
     go : (i < k → has a i ≡ has b i) → (eqb i k ≡ true) ⊎ (eqb i k ≡ false) → has a i ≡ has b i
-    go ih (inl q) = rw (eqb-true i k q) (tally-inj (has a k) (has b k) (omega (arith, tally-le (has a k) (has b k) (h k), size-sub k a b h)))
+    go ih (inl q) = rw (eqb-true i k q)
+        (tally-inj (has a k) (has b k)
+        (omega (arith, tally-le (has a k) (has b k) (h k), size-sub k a b h)))
     go ih (inr q) = ih (lib.Arith.lt-of-le-ne (omega arith) (eqb-false i k q))
 
 pub size-all : (k s : ℕ) → ((i : ℕ) → i < k → has s i ≡ true) → size k s ≡ k
 unfolding size
 size-all zero s h = refl
-size-all (suc k) s h = rw (h k (le-refl (suc k))) (omega (arith, size-all k s (λ i l. h i (omega arith))))
+size-all (suc k) s h = rw (h k (le-refl (suc k)))
+    (omega (arith, size-all k s (λ i l. h i (omega arith))))
 
 size-above : (k s i : ℕ) → k ≤ i → size k (add s i) ≡ size k s
 unfolding size
 size-above zero s i h = refl
 size-above (suc k) s i h =
     ap₂ (λ (p : Bool) (n : ℕ). tally p + n)
-    (has-add s i k ∙ ap (λ (q : Bool). has s k || q) (ne-eqb i k (λ e. omega arith)) ∙ or-false (has s k))
+    (has-add s i k ∙ ap (λ (q : Bool). has s k || q) (ne-eqb i k (λ e. omega arith))
+    ∙ or-false (has s k))
     (size-above k s i (omega arith))
 
 -- one more member at most
@@ -82,8 +86,14 @@ unfolding size
 size-add zero s i = zero-le
 size-add (suc k) s i = go (size-add k s i) (either (eqb i k))
   where
-    go : size k (add s i) ≤ suc (size k s) → (eqb i k ≡ true) ⊎ (eqb i k ≡ false) → tally (has (add s i) k) + size k (add s i) ≤ suc (tally (has s k) + size k s)
-    go ih (inl q) = omega (arith, eqb-true i k q, tally-one (has (add s i) k), size-above k s i (omega (arith, eqb-true i k q)))
+    go : size k (add s i) ≤ suc (size k s) → (eqb i k ≡ true) ⊎ (eqb i k ≡ false)
+        → tally (has (add s i) k) + size k (add s i) ≤ suc (tally (has s k) + size k s)
+    go ih (inl q) = omega (
+      arith,
+      eqb-true i k q,
+      tally-one (has (add s i) k),
+      size-above k s i (omega (arith, eqb-true i k q)),
+    )
     go ih (inr q) = rw (has-add s i k, q, or-false (has s k)) (omega arith)
 
 -- a member adds nothing
@@ -118,21 +128,31 @@ unfolding size
 size-pos zero s i h p = absurd (omega arith)
 size-pos (suc k) s i h p = go (λ l. size-pos k s i l p) (either (eqb i k))
   where
-    go : (i < k → 0 < size k s) → (eqb i k ≡ true) ⊎ (eqb i k ≡ false) → 0 < tally (has s k) + size k s
-    go ih (inl w) = let p′ : has s k ≡ true = ap (has s) (sym (eqb-true i k w)) ∙ p in rw p′ (omega arith)
+    go : (i < k → 0 < size k s) → (eqb i k ≡ true) ⊎ (eqb i k ≡ false)
+        → 0 < tally (has s k) + size k s
+    go ih (inl w) = let p′ : has s k ≡ true = ap (has s) (sym (eqb-true i k w)) ∙ p in
+        rw p′ (omega arith)
     go ih (inr w) = omega (arith, ih (lib.Arith.lt-of-le-ne (omega arith) (eqb-false i k w)))
 
 -- ---- where only the members below k count
-pub size-sub-below : (k a b : ℕ) → ((j : ℕ) → j < k → has a j ≡ true → has b j ≡ true) → size k a ≤ size k b
+pub size-sub-below : (k a b : ℕ) → ((j : ℕ) → j < k → has a j ≡ true → has b j ≡ true)
+    → size k a ≤ size k b
 unfolding size
 size-sub-below zero a b h = le-refl 0
-size-sub-below (suc k) a b h = omega (arith, tally-le (has a k) (has b k) (h k (le-refl (suc k))), size-sub-below k a b (λ j l. h j (omega arith)))
+size-sub-below (suc k) a b h =
+    omega (
+      arith,
+      tally-le (has a k) (has b k) (h k (le-refl (suc k))),
+      size-sub-below k a b (λ j l. h j (omega arith)),
+    )
 
 -- a set that lacks a member of a larger one is smaller
-pub size-less : (k a b i : ℕ) → ((j : ℕ) → j < k → has a j ≡ true → has b j ≡ true) → i < k → has a i ≡ false → has b i ≡ true → size k a < size k b
+pub size-less : (k a b i : ℕ) → ((j : ℕ) → j < k → has a j ≡ true → has b j ≡ true) → i < k
+    → has a i ≡ false → has b i ≡ true → size k a < size k b
 unfolding size
 size-less zero a b i h l p q = absurd (omega arith)
-size-less (suc k) a b i h l p q = go (λ l′. size-less k a b i (λ j m. h j (omega arith)) l′ p q) (either (eqb i k))
+size-less (suc k) a b i h l p q =
+    go (λ l′. size-less k a b i (λ j m. h j (omega arith)) l′ p q) (either (eqb i k))
   where
     here : tally (has a k) ≤ tally (has b k)
     here = tally-le (has a k) (has b k) (h k (le-refl (suc k)))
@@ -140,7 +160,8 @@ size-less (suc k) a b i h l p q = go (λ l′. size-less k a b i (λ j m. h j (o
     below : size k a ≤ size k b
     below = size-sub-below k a b (λ j m. h j (omega arith))
 
-    go : (i < k → size k a < size k b) → (eqb i k ≡ true) ⊎ (eqb i k ≡ false) → tally (has a k) + size k a < tally (has b k) + size k b
+    go : (i < k → size k a < size k b) → (eqb i k ≡ true) ⊎ (eqb i k ≡ false)
+        → tally (has a k) + size k a < tally (has b k) + size k b
     go ih (inl w) =
         let e₁ : has a k ≡ false = ap (has a) (sym (eqb-true i k w)) ∙ p in
         let e₂ : has b k ≡ true = ap (has b) (sym (eqb-true i k w)) ∙ q in

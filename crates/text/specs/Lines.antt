@@ -1,11 +1,9 @@
 -- Numbers and lines as text, in bytes: decimal without leading zeros, one
 -- blank between, one line feed after each line.
 use Prim.Native.Nat.{ℕ, zero, suc, _+_, _*_, _/_}
-use mathlib.Core.Path.{_≡_}
 use mathlib.Core.List.{List, [], _∷_, _++_}
 use lib.Dec.{eqb, ltb, leb}
 use lib.ListN.{length, take, drop}
-use Rattle.calls.specs.Calls.{atStart}
 use Rattle.taxa.specs.Sets.{pick}
 use Rattle.io.specs.Digits.{digits}
 
@@ -96,11 +94,3 @@ refusedLine r p = refusedWord ++ decimal r ++ atWord ++ decimal p ++ feed
 -- o with ds from place at
 abbrev pub placed : List ℕ → ℕ → List ℕ → List ℕ
 placed o at ds = take at o ++ (ds ++ drop (at + length ds) o)
-
--- r is how many bytes w has, and out′ is out with w at its start
-abbrev pub Wrote : List ℕ → List ℕ → ℕ → List ℕ → Type 0
-Wrote w out r out′ = (r ≡ length w) × (out′ ≡ atStart w out)
-
--- r is the place after w, which stands in out′ from place at on
-abbrev pub WroteAt : List ℕ → ℕ → List ℕ → ℕ → List ℕ → Type 0
-WroteAt w at out r out′ = (r ≡ at + length w) × (out′ ≡ placed out at w)

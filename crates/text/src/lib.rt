@@ -4,7 +4,9 @@ ghost use Prim.Native.Nat.{_+_, _≤_};
 ghost use mathlib.Core.Path.{_≡_};
 ghost use lib.ListN.{length};
 ghost use Rattle.taxa.specs.Most.{mostPartitions};
-ghost use Rattle.text.specs.Lines.{decimal, bin, className, Wrote, WroteAt};
+ghost use Rattle.text.specs.Lines.{decimal, bin, className};
+ghost use Rattle.calls.specs.Between.{Wrote};
+ghost use Rattle.text.specs.Between.{WroteAt};
 ghost use Rattle.text.specs.Lines.{verdictLine, savedLine, endLine, refusedLine};
 
 // How many digits n has.
@@ -20,7 +22,7 @@ pub fn width(n: u64) -> usize
 // Writes n in decimal; how many bytes.
 pub fn number(n: u64, out: &mut [u8]) -> usize
     requires { ⌜ length (decimal n) ≤ length (now out) ⌝ }
-    ensures { λ r. ⌜ Wrote (decimal n) (now (out .entry)) r (now (out .exit)) ⌝ }
+    ensures { λ r. ⌜ Wrote length (decimal n) (now (out .entry)) r (now (out .exit)) ⌝ }
 {
     let mut digits = [0u8; 20];
     let k = io::decimal(n, &mut digits);
@@ -82,7 +84,7 @@ fn then_class(s: u64, k: u64, out: &mut [u8], at: usize) -> usize
 // how many bytes.
 pub fn verdict_line(m: u64, p: u64, d: u64, out: &mut [u8]) -> usize
     requires { ⌜ length (verdictLine m p d) ≤ length (now out) ⌝ }
-    ensures { λ r. ⌜ Wrote (verdictLine m p d) (now (out .entry)) r (now (out .exit)) ⌝ }
+    ensures { λ r. ⌜ Wrote length (verdictLine m p d) (now (out .entry)) r (now (out .exit)) ⌝ }
 {
     let a = number(m, out);
     let b = then_word(b" ", out, a);
@@ -100,7 +102,7 @@ pub fn verdict_line(m: u64, p: u64, d: u64, out: &mut [u8]) -> usize
 pub fn saved_line(m: u64, s: u64, same: u64, k: u64, out: &mut [u8]) -> usize
     requires { ⌜ (same ≤ mostPartitions) × (k ≤ mostPartitions)
         × (length (savedLine m s same k) ≤ length (now out)) ⌝ }
-    ensures { λ r. ⌜ Wrote (savedLine m s same k) (now (out .entry)) r (now (out .exit)) ⌝ }
+    ensures { λ r. ⌜ Wrote length (savedLine m s same k) (now (out .entry)) r (now (out .exit)) ⌝ }
 {
     let a = number(m, out);
     let b = then_word(b" saved ", out, a);
@@ -113,7 +115,7 @@ pub fn saved_line(m: u64, s: u64, same: u64, k: u64, out: &mut [u8]) -> usize
 // Writes the last line: `end m`; how many bytes.
 pub fn end_line(m: u64, out: &mut [u8]) -> usize
     requires { ⌜ length (endLine m) ≤ length (now out) ⌝ }
-    ensures { λ r. ⌜ Wrote (endLine m) (now (out .entry)) r (now (out .exit)) ⌝ }
+    ensures { λ r. ⌜ Wrote length (endLine m) (now (out .entry)) r (now (out .exit)) ⌝ }
 {
     let a = then_word(b"end ", out, 0);
     let b = then_number(m, out, a);
@@ -123,7 +125,7 @@ pub fn end_line(m: u64, out: &mut [u8]) -> usize
 // Writes the line of a refusal: `refused r at p`; how many bytes.
 pub fn refused_line(r: u64, p: u64, out: &mut [u8]) -> usize
     requires { ⌜ length (refusedLine r p) ≤ length (now out) ⌝ }
-    ensures { λ k. ⌜ Wrote (refusedLine r p) (now (out .entry)) k (now (out .exit)) ⌝ }
+    ensures { λ k. ⌜ Wrote length (refusedLine r p) (now (out .entry)) k (now (out .exit)) ⌝ }
 {
     let a = then_word(b"refused ", out, 0);
     let b = then_number(r, out, a);

@@ -11,7 +11,8 @@ use lib.Dec.{eqb}
 use lib.Bits.{bitAnd}
 use borrow.Author.Tests.{eqb-true, eqb-false, eq-eqb}
 use Rattle.taxa.specs.Sets.{pick, has, less, some, Sub}
-use Rattle.taxa.proofs.Bools.{either, and-left, and-right, and-both, and-true-l, and-when, and-when′, or-cases, _⊕_, xor-cancel, xor-assoc, xor-same}
+use Rattle.taxa.proofs.Bools.{either, and-left, and-right, and-both, and-true-l, and-when}
+use Rattle.taxa.proofs.Bools.{and-when′, or-cases, _⊕_, xor-cancel, xor-assoc, xor-same}
 use Rattle.taxa.proofs.Sets.{has-and, has-less, ext, some-mono}
 use Rattle.tree.specs.Tree.{rows}
 use Rattle.tree.specs.Lists.{insert, mem, Asc}

@@ -14,7 +14,8 @@ use Rattle.taxa.proofs.Bools.{either, or-cases, or-left, or-right}
 use Rattle.taxa.proofs.Sets.{has-less, has-mod, has-ones, ext}
 use Rattle.tree.specs.Tree.{lo, hi, rows, nodes, touches, far, part, Valid}
 use Rattle.tree.specs.Splits.{side}
-use Rattle.tree.proofs.Joins.{Joins, touch-joins, joins-touch, joins-flip, joins-differ, touch-node, far-is}
+use Rattle.tree.proofs.Joins.{Joins, touch-joins, joins-touch, joins-flip, joins-differ}
+use Rattle.tree.proofs.Joins.{touch-node, far-is}
 use Rattle.tree.proofs.Colourings.{two-sides}
 use Rattle.tree.proofs.RowCounts.{Pair, pair, leaf-only}
 use Rattle.tree.proofs.Forks.{node-side, less-f, less-g, leaf-side}
@@ -30,7 +31,8 @@ pub record EndOf (n : ℕ) (t : List ℕ) (e v : ℕ) : Type 0 where
 pub record Branch (n : ℕ) (t : List ℕ) (e v r : ℕ) : Type 0 where
   pub at : EndOf n t r v
   pub fall : size (nodes n) (part n t r (far t r v)) < size (nodes n) (part n t e v)
-  pub within : (i : ℕ) → i < nodes n → has (part n t r (far t r v)) i ≡ true → has (part n t e v) i ≡ true
+  pub within : (i : ℕ) → i < nodes n → has (part n t r (far t r v)) i ≡ true
+      → has (part n t e v) i ≡ true
 
 module _ {n : ℕ} {t : List ℕ} {e v : ℕ} (a : EndOf n t e v) where
   pub end-joins : Joins t e v (far t e v)
@@ -47,7 +49,8 @@ module _ {n : ℕ} {t : List ℕ} {e v : ℕ} (a : EndOf n t e v) where
   far-end = record { valid = a .valid; row = a .row; touch = joins-touch t e (far t e v) v back }
 
   pub far-far : far t e (far t e v) ≡ v
-  far-far = far-is t e (far t e v) v back (joins-differ n t e (a .valid) (a .row) (far t e v) v back)
+  far-far = far-is t e (far t e v) v back
+      (joins-differ n t e (a .valid) (a .row) (far t e v) v back)
 
   -- ---- the two other rows at an inner end
   module _ (inner : n ≤ v) where
@@ -56,7 +59,8 @@ module _ {n : ℕ} {t : List ℕ} {e v : ℕ} (a : EndOf n t e v) where
 
     module _ {f g : ℕ} (K : Pair n t e v f g) where
       here : (i : ℕ) → i < nodes n
-          → has (part n t e v) i ≡ (has (part n t f (far t f v)) i || has (part n t g (far t g v)) i || eqb v i)
+          → has (part n t e v) i ≡ (has (part n t f (far t f v)) i || has (part n t g (far t g v)) i
+          || eqb v i)
       here = node-side n t e v f g (a .valid) (a .row) (a .touch) inner K
 
       pub first-branch : Branch n t e v f
@@ -64,7 +68,8 @@ module _ {n : ℕ} {t : List ℕ} {e v : ℕ} (a : EndOf n t e v) where
           record {
             at = record { valid = a .valid; row = K .f-lt; touch = K .f-p };
             fall = less-f n t e v f g (a .valid) (a .row) (a .touch) inner K;
-            within = λ i l p. here i l ∙ or-left _ (eqb v i) (or-left _ (has (part n t g (far t g v)) i) p);
+            within = λ i l p. here i l
+                ∙ or-left _ (eqb v i) (or-left _ (has (part n t g (far t g v)) i) p);
           }
 
       pub second-branch : Branch n t e v g
@@ -72,7 +77,8 @@ module _ {n : ℕ} {t : List ℕ} {e v : ℕ} (a : EndOf n t e v) where
           record {
             at = record { valid = a .valid; row = K .g-lt; touch = K .g-p };
             fall = less-g n t e v f g (a .valid) (a .row) (a .touch) inner K;
-            within = λ i l p. here i l ∙ or-left _ (eqb v i) (or-right (has (part n t f (far t f v)) i) _ p);
+            within = λ i l p. here i l
+                ∙ or-left _ (eqb v i) (or-right (has (part n t f (far t f v)) i) _ p);
           }
 
   -- ---- the side of the row, from what lies with the end
@@ -97,7 +103,8 @@ module _ {n : ℕ} {t : List ℕ} {e v : ℕ} (a : EndOf n t e v) where
           go (inr w) = eqb-true (hi t e) v w
 
       at : (i : ℕ) → (ltb i n ≡ true) ⊎ (ltb i n ≡ false)
-          → (ltb i n && not (ltb i n && has (part n t e v) i)) ≡ (ltb i n && has (part n t e (lo t e)) i)
+          → (ltb i n && not (ltb i n && has (part n t e v) i))
+          ≡ (ltb i n && has (part n t e (lo t e)) i)
       at i (inl w) =
           let l : i < nodes n = omega (arith, ltb-true i n w, a .valid .big) in
           rw w (sym (two-sides n t e v (lo t e) (a .valid) (a .row) (inr (refl, high)) i l))
@@ -107,5 +114,7 @@ module _ {n : ℕ} {t : List ℕ} {e v : ℕ} (a : EndOf n t e v) where
   pub row-one : v < n → (r : ℕ) → r < rows n → has (part n t e v) (lo t r) ≡ true → r ≡ e
   row-one tax r l p =
       let low : lo t r < nodes n = omega (arith, a .valid .order r l .0, a .valid .order r l .1) in
-      let w : v ≡ lo t r = eqb-true v (lo t r) (sym (leaf-side n t e v (a .valid) tax (a .row) (a .touch) (lo t r) low) ∙ p) in
-      leaf-only n t v e (a .valid) tax (a .row) (a .touch) r l (joins-touch t r v (hi t r) (inl (sym w, refl)))
+      let w : v ≡ lo t r = eqb-true v (lo t r)
+      (sym (leaf-side n t e v (a .valid) tax (a .row) (a .touch) (lo t r) low) ∙ p) in
+      leaf-only n t v e (a .valid) tax (a .row) (a .touch) r l
+      (joins-touch t r v (hi t r) (inl (sym w, refl)))

@@ -13,13 +13,11 @@ use lib.Dec.{ltb}
 use borrow.Author.Tests.{ltb-true, ltb-false}
 use Rattle.taxa.specs.Sets.{pick, less, some, size, lowest, Sub}
 use Rattle.taxa.proofs.Bools.{either, and-left, and-right}
-use Rattle.taxa.proofs.Sets.{sub-inside, sub-less, sub-lt}
-use Rattle.taxa.proofs.Sets.{some-lowest, lowest-lt}
+use Rattle.taxa.proofs.Sets.{sub-inside, sub-less, sub-lt, some-lowest, lowest-lt}
 use Rattle.taxa.proofs.Sizes.{sub-refl, size-cut, size-one}
 use Rattle.tree.specs.Tree.{Valid}
 use Rattle.tree.specs.Lists.{mem}
-use Rattle.tree.specs.Splits.{side, meets, splitBy, flips, split, splits}
-use Rattle.tree.specs.Splits.{distBy, dist}
+use Rattle.tree.specs.Splits.{side, meets, splitBy, flips, split, splits, distBy, dist}
 use Rattle.tree.proofs.Lists.{lacks-none}
 use Rattle.tree.proofs.Choices.{twice-by, out-of}
 use Rattle.tree.proofs.SideWritten.{flips-fair}

@@ -16,7 +16,9 @@ use Rattle.taxa.proofs.Sets.{has-add, has-or, has-mod, has-pow, ext}
 use Rattle.taxa.proofs.Sizes.{size-less}
 use Rattle.tree.specs.Tree.{lo, hi, rows, nodes, touches, far, part, Valid}
 use Rattle.tree.proofs.Rounds.{Flat, part-start}
-use Rattle.tree.proofs.Joins.{Joins, join-flat, flat-join, join-apart, apart-join, touch-joins, joins-touch, joins-flip, not-touch, joins-nodes, joins-differ}
+use Rattle.tree.proofs.Joins.{Joins, join-flat, flat-join, join-apart, apart-join}
+use Rattle.tree.proofs.Joins.{touch-joins, joins-touch, joins-flip, not-touch, joins-nodes}
+use Rattle.tree.proofs.Joins.{joins-differ}
 use Rattle.tree.proofs.Colourings.{Parts, Hangs, hangs, part-is}
 use Rattle.tree.proofs.RowCounts.{Pair, leaf-only}
 
@@ -34,7 +36,8 @@ pub record Fork (n : ℕ) (t : List ℕ) (p e x f q a c : ℕ) : Type 0 where
   pub pq : p ≡ q → ⊥
   pub inner : n ≤ p
   pub p-lt : p < nodes n
-  pub only : (r : ℕ) → r < rows n → (r ≡ e → ⊥) → (r ≡ x → ⊥) → (r ≡ f → ⊥) → (p ≡ lo t r → ⊥) × (p ≡ hi t r → ⊥)
+  pub only : (r : ℕ) → r < rows n → (r ≡ e → ⊥) → (r ≡ x → ⊥) → (r ≡ f → ⊥)
+      → (p ≡ lo t r → ⊥) × (p ≡ hi t r → ⊥)
 
 -- the two sets beyond x and f, and p itself
 abbrev pub joined : ℕ → ℕ → ℕ → ℕ
@@ -47,18 +50,23 @@ not-of-false : (p q : Bool) → p ≡ not q → p ≡ false → q ≡ true
 not-of-false p true h l = refl
 not-of-false p false h l = absurd (true≢false (sym h ∙ l))
 
-module _ (n : ℕ) (t : List ℕ) (p e x f q a c : ℕ) (k : Fork n t p e x f q a c) (A B : ℕ) (ha : Hangs n t x p A) (hb : Hangs n t f p B) where
+module _ (n : ℕ) (t : List ℕ) (p e x f q a c : ℕ) (k : Fork n t p e x f q a c) (A B : ℕ)
+    (ha : Hangs n t x p A) (hb : Hangs n t f p B) where
   pub at-a : has A a ≡ true
-  at-a = not-of-false (has A p) (has A a) (apart-join t x p a (has A) (k .x-row) (ha .parts .apart)) (ha .out)
+  at-a = not-of-false (has A p) (has A a) (apart-join t x p a (has A) (k .x-row) (ha .parts .apart))
+      (ha .out)
 
   pub at-c : has B c ≡ true
-  at-c = not-of-false (has B p) (has B c) (apart-join t f p c (has B) (k .f-row) (hb .parts .apart)) (hb .out)
+  at-c = not-of-false (has B p) (has B c) (apart-join t f p c (has B) (k .f-row) (hb .parts .apart))
+      (hb .out)
 
   pub A-at-q : has A q ≡ false
-  A-at-q = sym (flat-join t e p q (has A) (k .e-row) (ha .parts .closed e (k .e-lt) (k .ex))) ∙ ha .out
+  A-at-q = sym (flat-join t e p q (has A) (k .e-row) (ha .parts .closed e (k .e-lt) (k .ex)))
+      ∙ ha .out
 
   pub B-at-q : has B q ≡ false
-  B-at-q = sym (flat-join t e p q (has B) (k .e-row) (hb .parts .closed e (k .e-lt) (k .ef))) ∙ hb .out
+  B-at-q = sym (flat-join t e p q (has B) (k .e-row) (hb .parts .closed e (k .e-lt) (k .ef)))
+      ∙ hb .out
 
   U : ℕ → Bool
   U i = has (joined A B p) i
@@ -74,7 +82,8 @@ module _ (n : ℕ) (t : List ℕ) (p e x f q a c : ℕ) (k : Fork n t p e x f q 
   U-a = U-of a true (has B a) (eqb p a) at-a refl refl
 
   U-c : U c ≡ true
-  U-c = U-of c (has A c) true (eqb p c) refl at-c refl ∙ ap (λ (b : Bool). b || eqb p c) (or-true (has A c))
+  U-c = U-of c (has A c) true (eqb p c) refl at-c refl
+      ∙ ap (λ (b : Bool). b || eqb p c) (or-true (has A c))
 
   U-q : U q ≡ false
   U-q = U-of q false false false A-at-q B-at-q (ne-eqb p q (k .pq))
@@ -82,18 +91,25 @@ module _ (n : ℕ) (t : List ℕ) (p e x f q a c : ℕ) (k : Fork n t p e x f q 
   U-flat : Flat t e (rows n) U
   U-flat r h d = go (either (eqb r x)) (either (eqb r f))
     where
-      go : (eqb r x ≡ true) ⊎ (eqb r x ≡ false) → (eqb r f ≡ true) ⊎ (eqb r f ≡ false) → U (lo t r) ≡ U (hi t r)
+      go : (eqb r x ≡ true) ⊎ (eqb r x ≡ false) → (eqb r f ≡ true) ⊎ (eqb r f ≡ false)
+          → U (lo t r) ≡ U (hi t r)
       go (inl w) v = rw (eqb-true r x w) (join-flat t x p a U (k .x-row) (U-p ∙ sym U-a))
       go (inr w) (inl v) = rw (eqb-true r f v) (join-flat t f p c U (k .f-row) (U-p ∙ sym U-c))
       go (inr w) (inr v) =
           let o = k .only r h d (eqb-false r x w) (eqb-false r f v) in
           U-of (lo t r) (has A (hi t r)) (has B (hi t r)) false
-          (ha .parts .closed r h (eqb-false r x w)) (hb .parts .closed r h (eqb-false r f v)) (ne-eqb p (lo t r) (o .0))
-          ∙ sym (U-of (hi t r) (has A (hi t r)) (has B (hi t r)) false refl refl (ne-eqb p (hi t r) (o .1)))
+          (ha .parts .closed r h (eqb-false r x w)) (hb .parts .closed r h (eqb-false r f v))
+          (ne-eqb p (lo t r) (o .0))
+          ∙ sym (U-of (hi t r) (has A (hi t r)) (has B (hi t r)) false refl refl
+          (ne-eqb p (hi t r) (o .1)))
 
   pub joined-parts : Parts n t e (joined A B p)
   unfolding U
-  joined-parts = record { apart = join-apart t e p q U (k .e-row) (U-p ∙ sym (ap not U-q)); closed = U-flat }
+  joined-parts = record {
+    apart = join-apart t e p q U (k .e-row) (U-p ∙ sym (ap not U-q));
+    closed =
+        U-flat;
+  }
 
   pub joined-out : has (joined A B p) q ≡ false
   unfolding U
@@ -104,11 +120,14 @@ module _ (n : ℕ) (t : List ℕ) (p e x f q a c : ℕ) (k : Fork n t p e x f q 
   joined-in = U-p
 
   pub joined-at : (i : ℕ) → i < n → has (joined A B p) i ≡ (has A i || has B i)
-  joined-at i h = has-joined A B p i ∙ ap (λ (b : Bool). has A i || has B i || b) (ne-eqb p i (λ d. omega (arith, k .inner))) ∙ or-false (has A i || has B i)
+  joined-at i h = has-joined A B p i
+      ∙ ap (λ (b : Bool). has A i || has B i || b) (ne-eqb p i (λ d. omega (arith, k .inner)))
+      ∙ or-false (has A i || has B i)
 
 -- p with rows a, x and y and no other, where x and y are f and g in either
 -- order
-pub fork-of : (n : ℕ) (t : List ℕ) (a p f g : ℕ) → Valid n t → a < rows n → touches t a p ≡ true → n ≤ p → Pair n t a p f g
+pub fork-of : (n : ℕ) (t : List ℕ) (a p f g : ℕ) → Valid n t → a < rows n → touches t a p ≡ true
+    → n ≤ p → Pair n t a p f g
     → Fork n t p a f g (far t a p) (far t f p) (far t g p)
 fork-of n t a p f g v ha ta ip k =
     let j = touch-joins t a p ta in
@@ -128,7 +147,8 @@ fork-of n t a p f g v ha ta ip k =
       only = λ r h x y z. not-touch t r p (k .only r h x y z);
     }
 
-pub fork-swap : (n : ℕ) (t : List ℕ) (p e x f q a c : ℕ) → Fork n t p e x f q a c → Fork n t p e f x q c a
+pub fork-swap : (n : ℕ) (t : List ℕ) (p e x f q a c : ℕ) → Fork n t p e x f q a c
+    → Fork n t p e f x q c a
 fork-swap n t p e x f q a c k = record {
   e-row = k .e-row;
   x-row = k .f-row;
@@ -146,7 +166,8 @@ fork-swap n t p e x f q a c k = record {
 }
 
 -- ---- what lies with an inner end
-module _ (n : ℕ) (t : List ℕ) (e v f g : ℕ) (vt : Valid n t) (le : e < rows n) (te : touches t e v ≡ true) (inner : n ≤ v) (K : Pair n t e v f g) where
+module _ (n : ℕ) (t : List ℕ) (e v f g : ℕ) (vt : Valid n t) (le : e < rows n)
+    (te : touches t e v ≡ true) (inner : n ≤ v) (K : Pair n t e v f g) where
   pub fork : Fork n t v e f g (far t e v) (far t f v) (far t g v)
   fork = fork-of n t e v f g vt le te inner K
 
@@ -156,7 +177,9 @@ module _ (n : ℕ) (t : List ℕ) (e v f g : ℕ) (vt : Valid n t) (le : e < row
   pub hang-g : Hangs n t g v (part n t g (far t g v))
   hang-g = hangs n t g v (far t g v) vt (K .g-lt) (fork .f-row)
 
-  pub node-side : (i : ℕ) → i < nodes n → has (part n t e v) i ≡ (has (part n t f (far t f v)) i || has (part n t g (far t g v)) i || eqb v i)
+  pub node-side : (i : ℕ) → i < nodes n
+      → has (part n t e v) i ≡ (has (part n t f (far t f v)) i || has (part n t g (far t g v)) i
+      || eqb v i)
   node-side i l =
       let A = part n t f (far t f v) in
       let B = part n t g (far t g v) in
@@ -168,12 +191,16 @@ module _ (n : ℕ) (t : List ℕ) (e v f g : ℕ) (vt : Valid n t) (le : e < row
   -- each of the two is smaller
   pub less-f : size (nodes n) (part n t f (far t f v)) < size (nodes n) (part n t e v)
   less-f = size-less (nodes n) (part n t f (far t f v)) (part n t e v) v
-      (λ j l p. node-side j l ∙ or-left (has (part n t f (far t f v)) j || has (part n t g (far t g v)) j) (eqb v j) (or-left (has (part n t f (far t f v)) j) (has (part n t g (far t g v)) j) p))
+      (λ j l p. node-side j l ∙ or-left
+      (has (part n t f (far t f v)) j || has (part n t g (far t g v)) j) (eqb v j)
+      (or-left (has (part n t f (far t f v)) j) (has (part n t g (far t g v)) j) p))
       (fork .p-lt) (hang-f .out) (part-start n t e v)
 
   pub less-g : size (nodes n) (part n t g (far t g v)) < size (nodes n) (part n t e v)
   less-g = size-less (nodes n) (part n t g (far t g v)) (part n t e v) v
-      (λ j l p. node-side j l ∙ or-left (has (part n t f (far t f v)) j || has (part n t g (far t g v)) j) (eqb v j) (or-right (has (part n t f (far t f v)) j) (has (part n t g (far t g v)) j) p))
+      (λ j l p. node-side j l ∙ or-left
+      (has (part n t f (far t f v)) j || has (part n t g (far t g v)) j) (eqb v j)
+      (or-right (has (part n t f (far t f v)) j) (has (part n t g (far t g v)) j) p))
       (fork .p-lt) (hang-g .out) (part-start n t e v)
 
   pub at-f : touches t f (far t f v) ≡ true
@@ -183,28 +210,38 @@ module _ (n : ℕ) (t : List ℕ) (e v f g : ℕ) (vt : Valid n t) (le : e < row
   at-g = joins-touch t g (far t g v) v (joins-flip t g v (far t g v) (fork .f-row))
 
   -- among the taxa
-  pub taxa-both : bitOr (part n t f (far t f v) % 2 ^ n) (part n t g (far t g v) % 2 ^ n) ≡ part n t e v % 2 ^ n
-  taxa-both = ext (bitOr (part n t f (far t f v) % 2 ^ n) (part n t g (far t g v) % 2 ^ n)) (part n t e v % 2 ^ n) (λ i.
+  pub taxa-both : bitOr (part n t f (far t f v) % 2 ^ n) (part n t g (far t g v) % 2 ^ n)
+      ≡ part n t e v % 2 ^ n
+  taxa-both = ext (bitOr (part n t f (far t f v) % 2 ^ n) (part n t g (far t g v) % 2 ^ n))
+      (part n t e v % 2 ^ n) (λ i.
       has-or (part n t f (far t f v) % 2 ^ n) (part n t g (far t g v) % 2 ^ n) i
       ∙ ap₂ _||_ (has-mod n (part n t f (far t f v)) i) (has-mod n (part n t g (far t g v)) i)
       ∙ go i (either (ltb i n)) ∙ sym (has-mod n (part n t e v) i))
     where
       go : (i : ℕ) → (ltb i n ≡ true) ⊎ (ltb i n ≡ false)
-          → (ltb i n && has (part n t f (far t f v)) i || ltb i n && has (part n t g (far t g v)) i) ≡ (ltb i n && has (part n t e v) i)
+          → (ltb i n && has (part n t f (far t f v)) i || ltb i n && has (part n t g (far t g v)) i)
+          ≡ (ltb i n && has (part n t e v) i)
       go i (inl w) =
           let l = ltb-true i n w in
           let d : eqb v i ≡ false = ne-eqb v i (λ x. omega arith) in
-          rw w (sym (node-side i (omega (arith, vt .big)) ∙ ap (λ (x : Bool). has (part n t f (far t f v)) i || has (part n t g (far t g v)) i || x) d ∙ or-false (has (part n t f (far t f v)) i || has (part n t g (far t g v)) i)))
+          rw w (sym (node-side i (omega (arith, vt .big))
+          ∙ ap (λ (x : Bool). has (part n t f (far t f v)) i || has (part n t g (far t g v)) i
+          || x) d ∙ or-false (has (part n t f (far t f v)) i || has (part n t g (far t g v))
+          i)))
       go i (inr w) = rw w
 
 -- ---- a taxon lies alone on its side of its row
-module _ (n : ℕ) (t : List ℕ) (e v : ℕ) (vt : Valid n t) (lv : v < n) (le : e < rows n) (te : touches t e v ≡ true) where
+module _ (n : ℕ) (t : List ℕ) (e v : ℕ) (vt : Valid n t) (lv : v < n) (le : e < rows n)
+    (te : touches t e v ≡ true) where
   pub leaf-parts : Parts n t e (2 ^ v)
   leaf-parts = record {
-    apart = join-apart t e v (far t e v) (has (2 ^ v)) j (has-pow v v ∙ eq-eqb v v refl ∙ sym (ap not (has-pow v (far t e v) ∙ ne-eqb v (far t e v) (joins-differ n t e vt le v (far t e v) j))));
+    apart = join-apart t e v (far t e v) (has (2 ^ v)) j (has-pow v v ∙ eq-eqb v v refl
+        ∙ sym (ap not (has-pow v (far t e v)
+        ∙ ne-eqb v (far t e v) (joins-differ n t e vt le v (far t e v) j))));
     closed = λ r lr d.
         let o = not-touch t r v (λ w. d (leaf-only n t v e vt lv le te r lr w)) in
-        has-pow v (lo t r) ∙ ne-eqb v (lo t r) (o .0) ∙ sym (has-pow v (hi t r) ∙ ne-eqb v (hi t r) (o .1));
+        has-pow v (lo t r) ∙ ne-eqb v (lo t r) (o .0)
+        ∙ sym (has-pow v (hi t r) ∙ ne-eqb v (hi t r) (o .1));
   }
     where
       j : Joins t e v (far t e v)
@@ -212,11 +249,14 @@ module _ (n : ℕ) (t : List ℕ) (e v : ℕ) (vt : Valid n t) (lv : v < n) (le 
 
   pub leaf-side : (i : ℕ) → i < nodes n → has (part n t e v) i ≡ eqb v i
   leaf-side i l =
-      part-is n t e v (far t e v) vt le (touch-joins t e v te) (2 ^ v) leaf-parts (has-pow v v ∙ eq-eqb v v refl) i l ∙ has-pow v i
+      part-is n t e v (far t e v) vt le (touch-joins t e v te) (2 ^ v) leaf-parts
+      (has-pow v v ∙ eq-eqb v v refl) i l ∙ has-pow v i
 
   pub taxa-one : 2 ^ v ≡ part n t e v % 2 ^ n
-  taxa-one = ext (2 ^ v) (part n t e v % 2 ^ n) (λ i. go i (either (ltb i n)) ∙ sym (has-mod n (part n t e v) i))
+  taxa-one = ext (2 ^ v) (part n t e v % 2 ^ n) (λ i. go i (either (ltb i n))
+      ∙ sym (has-mod n (part n t e v) i))
     where
-      go : (i : ℕ) → (ltb i n ≡ true) ⊎ (ltb i n ≡ false) → has (2 ^ v) i ≡ (ltb i n && has (part n t e v) i)
+      go : (i : ℕ) → (ltb i n ≡ true) ⊎ (ltb i n ≡ false)
+          → has (2 ^ v) i ≡ (ltb i n && has (part n t e v) i)
       go i (inl w) = rw w (has-pow v i ∙ sym (leaf-side i (omega (arith, ltb-true i n w, vt .big))))
       go i (inr w) = rw w (has-pow v i ∙ ne-eqb v i (λ d. omega (arith, ltb-false i n w)))

@@ -12,15 +12,18 @@ use lib.Dec.{eqb}
 use lib.Bits.{bitAnd, and-zero-l}
 use borrow.Author.Tests.{eqb-true, ne-eqb, eq-eqb, not-true}
 use Rattle.taxa.specs.Sets.{has, less, some, lowest, Sub}
-use Rattle.taxa.proofs.Bools.{either, and-left, and-right, and-both, or-cases, or-left, or-right, _⊕_, xor-twice, xor-same, xor-move, xor-not}
-use Rattle.taxa.proofs.Sets.{has-and, has-less, has-pow, has-none, has-below, sub-inside, sub-less, sub-lt, some-has, some-zero, some-false, some-lowest}
+use Rattle.taxa.proofs.Bools.{either, and-left, and-right, and-both, or-cases, or-left, or-right}
+use Rattle.taxa.proofs.Bools.{_⊕_, xor-twice, xor-same, xor-move, xor-not}
+use Rattle.taxa.proofs.Sets.{has-and, has-less, has-pow, has-none, has-below, sub-inside, sub-less}
+use Rattle.taxa.proofs.Sets.{sub-lt, some-has, some-zero, some-false, some-lowest}
 use Rattle.taxa.proofs.Sizes.{sub-refl}
 use Rattle.tree.specs.Tree.{lo, rows, part, Valid}
 use Rattle.tree.specs.Lists.{mem}
 use Rattle.tree.specs.Splits.{side, meets, split, splits}
 use Rattle.tree.proofs.Colourings.{row-parts, valid-table, never-cross}
 use Rattle.tree.proofs.Choices.{Like}
-use Rattle.tree.proofs.SplitLaws.{num, side-has, num-of, split-eq, split-same, split-split, no-split, some-meets, meets-some, kept-in, kept-out}
+use Rattle.tree.proofs.SplitLaws.{num, side-has, num-of, split-eq, split-same, split-split}
+use Rattle.tree.proofs.SplitLaws.{no-split, some-meets, meets-some, kept-in, kept-out}
 use Rattle.tree.proofs.RowCounts.{leaf-row}
 use Rattle.tree.proofs.Forks.{leaf-parts}
 
@@ -47,7 +50,8 @@ other false true h = refl
 other false false h = absurd (h refl)
 
 -- where two opposite corners are empty, the one test settles the other
-opposite : (p q a b : Bool) → (a ≡ p → b ≡ q → ⊥) → (a ≡ not p → b ≡ not q → ⊥) → a ≡ (p ⊕ not q ⊕ b)
+opposite : (p q a b : Bool) → (a ≡ p → b ≡ q → ⊥) → (a ≡ not p → b ≡ not q → ⊥)
+    → a ≡ (p ⊕ not q ⊕ b)
 opposite p q a b h l = xor-move a b (p ⊕ not q) (go (eq-or a p))
   where
     go : (a ≡ p) ⊎ (a ≡ not p) → (a ⊕ b) ≡ (p ⊕ not q)
@@ -58,17 +62,24 @@ opposite p q a b h l = xor-move a b (p ⊕ not q) (go (eq-or a p))
 -- the empty set makes no split
 split-none : (n y : ℕ) → y < 2 ^ n → split n y 0 ≡ 0
 unfolding meets
-split-none n y bound = no-split n y 0 bound (ap (λ (b : Bool). b && some (less y 0)) (ap some (and-zero-l y) ∙ some-zero))
+split-none n y bound = no-split n y 0 bound
+    (ap (λ (b : Bool). b && some (less y 0)) (ap some (and-zero-l y) ∙ some-zero))
 
 -- a member of y that is not in s
-pub missing : (n y s : ℕ) → y < 2 ^ n → some (less y s) ≡ true → (i : ℕ) × (has y i ≡ true) × (has s i ≡ false)
+pub missing : (n y s : ℕ) → y < 2 ^ n → some (less y s) ≡ true
+    → (i : ℕ) × (has y i ≡ true) × (has s i ≡ false)
 missing n y s b h =
     let l = lowest n (less y s) in
-    let u : (has y l && not (has s l)) ≡ true = sym (has-less y s l) ∙ some-lowest n (less y s) (sub-lt n (less y s) y (sub-less y s) b) h in
-    (l, and-left (has y l) (not (has s l)) u, not-true (has s l) (and-right (has y l) (not (has s l)) u))
+    let u : (has y l && not (has s l)) ≡ true = sym (has-less y s l)
+    ∙ some-lowest n (less y s) (sub-lt n (less y s) y (sub-less y s) b) h in (
+      l,
+      and-left (has y l) (not (has s l)) u,
+      not-true (has s l) (and-right (has y l) (not (has s l)) u),
+    )
 
 -- a set that is kept over y has members of y on each side
-pub both-sides : (n y s : ℕ) → y < 2 ^ n → some (split n y s) ≡ true → (p : Bool) → (i : ℕ) × (has y i ≡ true) × (has s i ≡ p)
+pub both-sides : (n y s : ℕ) → y < 2 ^ n → some (split n y s) ≡ true → (p : Bool)
+    → (i : ℕ) × (has y i ≡ true) × (has s i ≡ p)
 unfolding meets
 both-sides n y s b h p = go p
   where
@@ -78,12 +89,15 @@ both-sides n y s b h p = go p
     go : (p : Bool) → (i : ℕ) × (has y i ≡ true) × (has s i ≡ p)
     go true =
         let l = lowest n (bitAnd s y) in
-        let u : (has s l && has y l) ≡ true = sym (has-and s y l) ∙ some-lowest n (bitAnd s y) (sub-lt n (bitAnd s y) y (sub-inside y s) b) (and-left (some (bitAnd s y)) (some (less y s)) m) in
+        let u : (has s l && has y l) ≡ true = sym (has-and s y l)
+        ∙ some-lowest n (bitAnd s y) (sub-lt n (bitAnd s y) y (sub-inside y s) b)
+        (and-left (some (bitAnd s y)) (some (less y s)) m) in
         (l, and-right (has s l) (has y l) u, and-left (has s l) (has y l) u)
     go false = missing n y s b (and-right (some (bitAnd s y)) (some (less y s)) m)
 
 -- and the other way round: a member on each side
-pub kept-by : (n y s i j : ℕ) → has y i ≡ true → has y j ≡ true → has s i ≡ true → has s j ≡ false → some (split n y s) ≡ true
+pub kept-by : (n y s i j : ℕ) → has y i ≡ true → has y j ≡ true → has s i ≡ true → has s j ≡ false
+    → some (split n y s) ≡ true
 unfolding meets
 kept-by n y s i j yi yj si sj = meets-some n y s (and-both (some (bitAnd s y)) (some (less y s))
     (some-has (bitAnd s y) i (has-and s y i ∙ ap₂ _&&_ si yi))
@@ -135,8 +149,10 @@ module _ (n : ℕ) (t : List ℕ) (Y Y′ x : ℕ) (G : Grown n t Y Y′ x) wher
   not-new i p = ne-eqb x i (λ d. true≢false (sym p ∙ ap (has Y) (sym d) ∙ G .new))
 
   -- a split over Y′ is settled by what it is over Y, and by x
-  pub grow-eq : (s s′ : ℕ) (d : Bool) → ((i : ℕ) → has Y i ≡ true → has s i ≡ (d ⊕ has s′ i)) → has s x ≡ (d ⊕ has s′ x) → split n Y′ s ≡ split n Y′ s′
-  grow-eq s s′ d h hx = split-eq n Y′ s s′ (G .bound′) d (λ i p. go i (or-cases (has Y i) (eqb x i) (sym (G .grown i) ∙ p)))
+  pub grow-eq : (s s′ : ℕ) (d : Bool) → ((i : ℕ) → has Y i ≡ true → has s i ≡ (d ⊕ has s′ i))
+      → has s x ≡ (d ⊕ has s′ x) → split n Y′ s ≡ split n Y′ s′
+  grow-eq s s′ d h hx = split-eq n Y′ s s′ (G .bound′) d
+      (λ i p. go i (or-cases (has Y i) (eqb x i) (sym (G .grown i) ∙ p)))
     where
       go : (i : ℕ) → (has Y i ≡ true) ⊎ (eqb x i ≡ true) → has s i ≡ (d ⊕ has s′ i)
       go i (inl q) = h i q
@@ -150,7 +166,8 @@ module _ (n : ℕ) (t : List ℕ) (Y Y′ x : ℕ) (G : Grown n t Y Y′ x) wher
   pub again : (z : ℕ) → mem z (splits n t Y′) ≡ true → split n Y′ z ≡ z
   again z h =
       let w = kept-out n t Y′ (G .bound′) z h in
-      ap (split n Y′) (w .3) ∙ split-split n Y′ Y′ (sub-refl Y′) (G .bound′) (side n t (w .0)) ∙ sym (w .3)
+      ap (split n Y′) (w .3) ∙ split-split n Y′ Y′ (sub-refl Y′) (G .bound′) (side n t (w .0))
+      ∙ sym (w .3)
 
   -- ---- x's own split: x against all others
   abbrev pub own : ℕ
@@ -160,20 +177,25 @@ module _ (n : ℕ) (t : List ℕ) (Y Y′ x : ℕ) (G : Grown n t Y Y′ x) wher
   pub own-in : (a : ℕ) → has Y a ≡ true → mem own (splits n t Y′) ≡ true
   own-in a p =
       leaf-in n t Y′ x (G .valid) (G .bound′) (G .lt)
-      (kept-by n Y′ (2 ^ x) x a in-new (in-old a p) (has-pow x x ∙ eq-eqb x x refl) (has-pow x a ∙ not-new a p))
+      (kept-by n Y′ (2 ^ x) x a in-new (in-old a p) (has-pow x x ∙ eq-eqb x x refl)
+      (has-pow x a ∙ not-new a p))
 
   pub own-cut : split n Y own ≡ 0
-  own-cut = cut (2 ^ x) ∙ split-eq n Y (2 ^ x) 0 (G .bound) false (λ i p. has-pow x i ∙ not-new i p ∙ sym (has-none i)) ∙ split-none n Y (G .bound)
+  own-cut = cut (2 ^ x) ∙ split-eq n Y (2 ^ x) 0 (G .bound) false (λ i p. has-pow x i ∙ not-new i p
+      ∙ sym (has-none i)) ∙ split-none n Y (G .bound)
 
   -- a split over Y′ other than x's own cuts down to a split over Y
-  pub down : (z : ℕ) → mem z (splits n t Y′) ≡ true → (z ≡ own → ⊥) → mem (split n Y z) (splits n t Y) ≡ true
+  pub down : (z : ℕ) → mem z (splits n t Y′) ≡ true → (z ≡ own → ⊥)
+      → mem (split n Y z) (splits n t Y) ≡ true
   down z h d = go (either (some (split n Y z)))
     where
       w : (r : ℕ) × (r < rows n) × (some z ≡ true) × (z ≡ num n t Y′ r)
       w = kept-out n t Y′ (G .bound′) z h
 
-      go : (some (split n Y z) ≡ true) ⊎ (some (split n Y z) ≡ false) → mem (split n Y z) (splits n t Y) ≡ true
-      go (inl p) = kept-in n t Y (G .bound) (split n Y z) (w .0) (w .1) p (ap (split n Y) (w .3) ∙ cut (side n t (w .0)))
+      go : (some (split n Y z) ≡ true) ⊎ (some (split n Y z) ≡ false)
+          → mem (split n Y z) (splits n t Y) ≡ true
+      go (inl p) = kept-in n t Y (G .bound) (split n Y z) (w .0) (w .1) p
+          (ap (split n Y) (w .3) ∙ cut (side n t (w .0)))
       go (inr p) = absurd (at (xor-or (has z x) (c .0)))
         where
           c : (b : Bool) × Like Y b z 0
@@ -181,27 +203,32 @@ module _ (n : ℕ) (t : List ℕ) (Y Y′ x : ℕ) (G : Grown n t Y Y′ x) wher
 
           at : (has z x ≡ (c .0 ⊕ false)) ⊎ (has z x ≡ (c .0 ⊕ true)) → ⊥
           at (inl q) = true≢false (sym (w .2) ∙ ap some (sym (again z h)
-              ∙ grow-eq z 0 (c .0) (c .1) (q ∙ ap (λ (b : Bool). c .0 ⊕ b) (sym (has-none x))) ∙ split-none n Y′ (G .bound′)) ∙ some-zero)
+              ∙ grow-eq z 0 (c .0) (c .1) (q ∙ ap (λ (b : Bool). c .0 ⊕ b) (sym (has-none x)))
+              ∙ split-none n Y′ (G .bound′)) ∙ some-zero)
           at (inr q) = d (sym (again z h) ∙ grow-eq z (2 ^ x) (c .0)
-              (λ i u. c .1 i u ∙ ap (λ (b : Bool). c .0 ⊕ b) (has-none i ∙ sym (has-pow x i ∙ not-new i u)))
+              (λ i u. c .1 i u ∙ ap (λ (b : Bool). c .0 ⊕ b)
+              (has-none i ∙ sym (has-pow x i ∙ not-new i u)))
               (q ∙ ap (λ (b : Bool). c .0 ⊕ b) (sym (has-pow x x ∙ eq-eqb x x refl))))
 
   -- ---- one split has two lifts at most: they differ at x
   lifts : (s s′ : ℕ) → split n Y s ≡ split n Y s′ → (split n Y′ s ≡ split n Y′ s′ → ⊥)
-      → (d : Bool) × ((i : ℕ) → has Y i ≡ true → has s i ≡ (d ⊕ has s′ i)) × (has s x ≡ not (d ⊕ has s′ x))
+      → (d : Bool) × ((i : ℕ) → has Y i ≡ true → has s i ≡ (d ⊕ has s′ i))
+      × (has s x ≡ not (d ⊕ has s′ x))
   lifts s s′ e ne =
       let c = split-same n Y s s′ e in
       (c .0, c .1, other (has s x) (c .0 ⊕ has s′ x) (λ q. ne (grow-eq s s′ (c .0) (c .1) q)))
 
   -- of three lifts of one split, two that are not the first are equal
-  pub two-lifts : (s s₁ s₂ : ℕ) → split n Y s ≡ split n Y s₁ → split n Y s ≡ split n Y s₂ → (split n Y′ s ≡ split n Y′ s₁ → ⊥) → (split n Y′ s ≡ split n Y′ s₂ → ⊥)
+  pub two-lifts : (s s₁ s₂ : ℕ) → split n Y s ≡ split n Y s₁ → split n Y s ≡ split n Y s₂
+      → (split n Y′ s ≡ split n Y′ s₁ → ⊥) → (split n Y′ s ≡ split n Y′ s₂ → ⊥)
       → split n Y′ s₁ ≡ split n Y′ s₂
   two-lifts s s₁ s₂ e₁ e₂ ne₁ ne₂ =
       let a = lifts s s₁ e₁ ne₁ in
       let b = lifts s s₂ e₂ ne₂ in
       grow-eq s₁ s₂ (a .0 ⊕ b .0)
       (λ i p. xor-same (a .0) (has s₁ i) (b .0) (has s₂ i) (sym (a .1 i p) ∙ b .1 i p))
-      (xor-same (a .0) (has s₁ x) (b .0) (has s₂ x) (xor-inj true (a .0 ⊕ has s₁ x) (b .0 ⊕ has s₂ x) (sym (a .2) ∙ b .2)))
+      (xor-same (a .0) (has s₁ x) (b .0) (has s₂ x)
+      (xor-inj true (a .0 ⊕ has s₁ x) (b .0 ⊕ has s₂ x) (sym (a .2) ∙ b .2)))
 
   -- ---- two splits of one tree never cross: one corner is empty
   corner : (z u : ℕ) → mem z (splits n t Y′) ≡ true → mem u (splits n t Y′) ≡ true
@@ -210,8 +237,10 @@ module _ (n : ℕ) (t : List ℕ) (Y Y′ x : ℕ) (G : Grown n t Y Y′ x) wher
       let a = kept-out n t Y′ (G .bound′) z hz in
       let b = kept-out n t Y′ (G .bound′) u hu in
       let tab = valid-table n t (G .valid) in
-      let k = never-cross n t (a .0) (b .0) (part n t (a .0) (lo t (a .0))) (part n t (b .0) (lo t (b .0))) (G .valid) (a .1) (b .1)
-      (row-parts n t (G .valid .big) tab (a .0) (a .1)) (row-parts n t (G .valid .big) tab (b .0) (b .1)) in
+      let k = never-cross n t (a .0) (b .0) (part n t (a .0) (lo t (a .0)))
+      (part n t (b .0) (lo t (b .0))) (G .valid) (a .1) (b .1)
+      (row-parts n t (G .valid .big) tab (a .0) (a .1))
+      (row-parts n t (G .valid .big) tab (b .0) (b .1)) in
       let da = split-same n Y′ z (side n t (a .0)) (again z hz ∙ a .3) in
       let db = split-same n Y′ u (side n t (b .0)) (again u hu ∙ b .3) in (
         da .0 ⊕ k .0,
@@ -219,22 +248,27 @@ module _ (n : ℕ) (t : List ℕ) (Y Y′ x : ℕ) (G : Grown n t Y Y′ x) wher
         λ i y p q.
             let l : i < n = has-below n Y′ i (G .bound′) y in
             k .2 i (omega (arith, G .valid .big))
-            (sym (side-has n t (a .0) i l) ∙ xor-inj (da .0) (has (side n t (a .0)) i) (k .0) (sym (da .1 i y) ∙ p))
-            (sym (side-has n t (b .0) i l) ∙ xor-inj (db .0) (has (side n t (b .0)) i) (k .1) (sym (db .1 i y) ∙ q)),
+            (sym (side-has n t (a .0) i l)
+            ∙ xor-inj (da .0) (has (side n t (a .0)) i) (k .0) (sym (da .1 i y) ∙ p))
+            (sym (side-has n t (b .0) i l)
+            ∙ xor-inj (db .0) (has (side n t (b .0)) i) (k .1) (sym (db .1 i y) ∙ q)),
       )
 
   -- ---- of all splits over Y one at most has two lifts
 
   -- of two lifts of one split each has x on another side
   seats : (z₀ z₁ : ℕ) → Twice n t Y Y′ z₀ z₁ → (p : Bool)
-      → (z : ℕ) × (d : Bool) × (mem z (splits n t Y′) ≡ true) × ((i : ℕ) → has Y i ≡ true → has z₀ i ≡ (d ⊕ has z i)) × ((d ⊕ has z x) ≡ p)
+      → (z : ℕ) × (d : Bool) × (mem z (splits n t Y′) ≡ true)
+      × ((i : ℕ) → has Y i ≡ true → has z₀ i ≡ (d ⊕ has z i)) × ((d ⊕ has z x) ≡ p)
   seats z₀ z₁ T p = go (eq-or (has z₀ x) p)
     where
       go : (has z₀ x ≡ p) ⊎ (has z₀ x ≡ not p)
-          → (z : ℕ) × (d : Bool) × (mem z (splits n t Y′) ≡ true) × ((i : ℕ) → has Y i ≡ true → has z₀ i ≡ (d ⊕ has z i)) × ((d ⊕ has z x) ≡ p)
+          → (z : ℕ) × (d : Bool) × (mem z (splits n t Y′) ≡ true)
+          × ((i : ℕ) → has Y i ≡ true → has z₀ i ≡ (d ⊕ has z i)) × ((d ⊕ has z x) ≡ p)
       go (inl e) = (z₀, false, T .in₀, λ i y. refl, e)
       go (inr e) =
-          let w = lifts z₀ z₁ (T .same) (λ q. T .apart (sym (again z₀ (T .in₀)) ∙ q ∙ again z₁ (T .in₁))) in
+          let w = lifts z₀ z₁ (T .same)
+          (λ q. T .apart (sym (again z₀ (T .in₀)) ∙ q ∙ again z₁ (T .in₁))) in
           (z₁, w .0, T .in₁, w .1, xor-inj true (w .0 ⊕ has z₁ x) p (sym (w .2) ∙ e))
 
   -- no member of Y has the colour p in z and q in u
@@ -242,19 +276,23 @@ module _ (n : ℕ) (t : List ℕ) (Y Y′ x : ℕ) (G : Grown n t Y Y′ x) wher
   Free z u p q = (i : ℕ) → has Y i ≡ true → has z i ≡ p → has u i ≡ q → ⊥
 
   -- for each seat of x there is another corner that is empty
-  free-at : (z₀ z₁ u₀ u₁ : ℕ) → Twice n t Y Y′ z₀ z₁ → Twice n t Y Y′ u₀ u₁ → (p q : Bool) → (p′ q′ : Bool) × (p′ ≡ p → q′ ≡ q → ⊥) × Free z₀ u₀ p′ q′
+  free-at : (z₀ z₁ u₀ u₁ : ℕ) → Twice n t Y Y′ z₀ z₁ → Twice n t Y Y′ u₀ u₁ → (p q : Bool)
+      → (p′ q′ : Bool) × (p′ ≡ p → q′ ≡ q → ⊥) × Free z₀ u₀ p′ q′
   free-at z₀ z₁ u₀ u₁ T U p q =
       let a = seats z₀ z₁ T p in
       let b = seats u₀ u₁ U q in
       let k = corner (a .0) (b .0) (a .2) (b .2) in (
         a .1 ⊕ k .0,
         b .1 ⊕ k .1,
-        λ e f. k .2 x in-new (xor-inj (a .1) (has (a .0) x) (k .0) (a .4 ∙ sym e)) (xor-inj (b .1) (has (b .0) x) (k .1) (b .4 ∙ sym f)),
-        λ i y e f. k .2 i (in-old i y) (xor-inj (a .1) (has (a .0) i) (k .0) (sym (a .3 i y) ∙ e)) (xor-inj (b .1) (has (b .0) i) (k .1) (sym (b .3 i y) ∙ f)),
+        λ e f. k .2 x in-new (xor-inj (a .1) (has (a .0) x) (k .0) (a .4 ∙ sym e))
+            (xor-inj (b .1) (has (b .0) x) (k .1) (b .4 ∙ sym f)),
+        λ i y e f. k .2 i (in-old i y) (xor-inj (a .1) (has (a .0) i) (k .0) (sym (a .3 i y) ∙ e))
+            (xor-inj (b .1) (has (b .0) i) (k .1) (sym (b .3 i y) ∙ f)),
       )
 
   -- two empty corners leave the same split
-  pinned : (z u : ℕ) (p q p′ q′ : Bool) → some (split n Y z) ≡ true → some (split n Y u) ≡ true → (p′ ≡ p → q′ ≡ q → ⊥) → Free z u p q → Free z u p′ q′
+  pinned : (z u : ℕ) (p q p′ q′ : Bool) → some (split n Y z) ≡ true → some (split n Y u) ≡ true
+      → (p′ ≡ p → q′ ≡ q → ⊥) → Free z u p q → Free z u p′ q′
       → split n Y z ≡ split n Y u
   pinned z u p q p′ q′ kz ku ne F F′ = go (eq-or p′ p) (eq-or q′ q)
     where
@@ -277,10 +315,13 @@ module _ (n : ℕ) (t : List ℕ) (Y Y′ x : ℕ) (G : Grown n t Y Y′ x) wher
           at (inl g) = F (w .0) (w .1) g (w .2)
           at (inr g) = F′ (w .0) (w .1) (g ∙ sym e) (w .2 ∙ sym f)
       go (inr e) (inr f) =
-          split-eq n Y z u (G .bound) (p ⊕ not q) (λ i y. opposite p q (has z i) (has u i) (F i y) (λ a b. F′ i y (a ∙ sym e) (b ∙ sym f)))
+          split-eq n Y z u (G .bound) (p ⊕ not q)
+          (λ i y. opposite p q (has z i) (has u i) (F i y)
+          (λ a b. F′ i y (a ∙ sym e) (b ∙ sym f)))
 
   -- two splits with two lifts each are one and the same
-  pub meet-one : (z₀ z₁ u₀ u₁ : ℕ) → Twice n t Y Y′ z₀ z₁ → Twice n t Y Y′ u₀ u₁ → split n Y z₀ ≡ split n Y u₀
+  pub meet-one : (z₀ z₁ u₀ u₁ : ℕ) → Twice n t Y Y′ z₀ z₁ → Twice n t Y Y′ u₀ u₁
+      → split n Y z₀ ≡ split n Y u₀
   meet-one z₀ z₁ u₀ u₁ T U =
       let a = free-at z₀ z₁ u₀ u₁ T U true true in
       let b = free-at z₀ z₁ u₀ u₁ T U (a .0) (a .1) in

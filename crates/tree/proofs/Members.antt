@@ -15,17 +15,20 @@ use lib.ListN.{length}
 use lib.Pow.{pow-pos, pow-mono}
 use borrow.Author.Tests.{eqb-true, eqb-false, ne-eqb, eq-eqb, ltb-true, ltb-false, lt-ltb, le-ltb}
 use Rattle.taxa.specs.Sets.{has, some, tally, size}
-use Rattle.taxa.proofs.Bools.{either, and-left, and-right, or-cases, or-left, or-neither, and-false-r}
+use Rattle.taxa.proofs.Bools.{either, and-left, and-right, or-cases, or-left, or-neither}
+use Rattle.taxa.proofs.Bools.{and-false-r}
 use Rattle.taxa.proofs.Sets.{has-mod, ext, some-zero}
 use Rattle.taxa.proofs.Sizes.{size-pos}
 use Rattle.tree.specs.Tree.{rows, Valid}
 use Rattle.tree.specs.Lists.{mem, lacks}
 use Rattle.tree.specs.Splits.{side, split, splits, members}
-use Rattle.tree.proofs.Lists.{Distinct, asc-distinct, lacks-le′, lacks-nil, lacks-none, none-lacks}
+use Rattle.tree.proofs.Lists.{Distinct, asc-distinct, lacks-le′, lacks-nil, lacks-none}
+use Rattle.tree.proofs.Lists.{none-lacks}
 use Rattle.tree.proofs.Choices.{meets-mono}
 use Rattle.tree.proofs.SplitLaws.{num, meets-some, some-meets, kept-in, kept-out, splits-asc}
 use Rattle.tree.proofs.ListCounts.{Left, lacks-cons, lacks-inj}
-use Rattle.tree.proofs.Growth.{Grown, Twice, both-sides, sub, own, own-in, own-cut, cut, again, down, two-lifts, meet-one}
+use Rattle.tree.proofs.Growth.{Grown, Twice, both-sides, sub, own, own-in, own-cut, cut}
+use Rattle.tree.proofs.Growth.{again, down, two-lifts, meet-one}
 use Rattle.tree.proofs.DoubleLift.{found}
 
 -- the number in one formula, where subtraction stops at 0
@@ -42,7 +45,8 @@ unfolding size
 find zero s h = absurd (omega arith)
 find (suc k) s h = go (find k s) (has s k) refl h
   where
-    go : (0 < size k s → (i : ℕ) × (i < k) × (has s i ≡ true)) → (b : Bool) → has s k ≡ b → 0 < tally b + size k s → (i : ℕ) × (i < suc k) × (has s i ≡ true)
+    go : (0 < size k s → (i : ℕ) × (i < k) × (has s i ≡ true)) → (b : Bool) → has s k ≡ b
+        → 0 < tally b + size k s → (i : ℕ) × (i < suc k) × (has s i ≡ true)
     go ih true e h = (k, le-refl (suc k), e)
     go ih false e h = let w = ih (omega arith) in (w .0, omega (arith, w .1), w .2)
 
@@ -61,17 +65,36 @@ unfolding size
 find-two zero s h = absurd (omega arith)
 find-two (suc k) s h = go (find-two k s) (has s k) refl h
   where
-    go : (1 < size k s → Two k s) → (b : Bool) → has s k ≡ b → 1 < tally b + size k s → Two (suc k) s
+    go : (1 < size k s → Two k s) → (b : Bool) → has s k ≡ b → 1 < tally b + size k s
+        → Two (suc k) s
     go ih true e h =
         let w = find k s (omega arith) in
-        record { a = k; b = w .0; a-lt = le-refl (suc k); b-lt = omega (arith, w .1); in-a = e; in-b = w .2; ab = λ d. omega (arith, w .1) }
+        record {
+          a = k;
+          b = w .0;
+          a-lt = le-refl (suc k);
+          b-lt = omega (arith, w .1);
+          in-a = e;
+          in-b = w .2;
+          ab = λ d. omega (arith, w .1);
+        }
     go ih false e h =
         let w = ih (omega arith) in
-        record { a = w .a; b = w .b; a-lt = omega (arith, w .a-lt); b-lt = omega (arith, w .b-lt); in-a = w .in-a; in-b = w .in-b; ab = w .ab }
+        record {
+          a = w .a;
+          b = w .b;
+          a-lt = omega (arith, w .a-lt);
+          b-lt = omega (arith, w .b-lt);
+          in-a = w .in-a;
+          in-b = w .in-b;
+          ab = w .ab;
+        }
 
 -- ---- a set with one taxon at most has no splits
-few-none : (n : ℕ) (t : List ℕ) (y : ℕ) → y < 2 ^ n → ((i j : ℕ) → has y i ≡ true → has y j ≡ true → i ≡ j) → length (splits n t y) ≡ 0
-few-none n t y b one = sym (lacks-nil (splits n t y)) ∙ lacks-none (splits n t y) [] (λ z h. absurd (bad z h))
+few-none : (n : ℕ) (t : List ℕ) (y : ℕ) → y < 2 ^ n
+    → ((i j : ℕ) → has y i ≡ true → has y j ≡ true → i ≡ j) → length (splits n t y) ≡ 0
+few-none n t y b one = sym (lacks-nil (splits n t y))
+    ∙ lacks-none (splits n t y) [] (λ z h. absurd (bad z h))
   where
     bad : (z : ℕ) → mem z (splits n t y) ≡ true → ⊥
     bad z h =
@@ -96,12 +119,16 @@ module _ (n : ℕ) (t : List ℕ) (Y Y′ x : ℕ) (G : Grown n t Y Y′ x) wher
   grow-one a ya e =
       let c : suc (lacks (splits n t Y′) (mine ∷ [])) ≡ lacks (splits n t Y′) []
       = lacks-cons mine (splits n t Y′) [] dis (own-in n t Y Y′ x G a ya) refl in
-      let o : lacks (splits n t Y′) (mine ∷ []) ≡ 0 = lacks-none (splits n t Y′) (mine ∷ []) (λ z h. go z h (either (eqb z mine))) in
+      let o : lacks (splits n t Y′) (mine ∷ []) ≡ 0 =
+      lacks-none (splits n t Y′) (mine ∷ []) (λ z h. go z h (either (eqb z mine))) in
       omega (arith, lacks-nil (splits n t Y′))
     where
-      go : (z : ℕ) → mem z (splits n t Y′) ≡ true → (eqb z mine ≡ true) ⊎ (eqb z mine ≡ false) → (eqb z mine || false) ≡ true
+      go : (z : ℕ) → mem z (splits n t Y′) ≡ true → (eqb z mine ≡ true) ⊎ (eqb z mine ≡ false)
+          → (eqb z mine || false) ≡ true
       go z h (inl q) = or-left (eqb z mine) false q
-      go z h (inr q) = absurd (false≢true (none-lacks (splits n t Y) [] (lacks-nil (splits n t Y) ∙ e) (split n Y z) (down n t Y Y′ x G z h (eqb-false z mine q))))
+      go z h (inr q) = absurd (false≢true
+          (none-lacks (splits n t Y) [] (lacks-nil (splits n t Y) ∙ e) (split n Y z)
+          (down n t Y Y′ x G z h (eqb-false z mine q))))
 
   -- z₁ and x's own are two splits more, where z₀ and z₁ are two lifts of one
   -- split
@@ -112,7 +139,8 @@ module _ (n : ℕ) (t : List ℕ) (Y Y′ x : ℕ) (G : Grown n t Y Y′ x) wher
     -- what is left over Y is not x's own
     not-mine : (z : ℕ) → some (split n Y z) ≡ true → z ≡ mine → ⊥
     unfolding mine
-    not-mine z h d = true≢false (sym h ∙ ap some (ap (split n Y) d ∙ own-cut n t Y Y′ x G) ∙ some-zero)
+    not-mine z h d = true≢false (sym h ∙ ap some (ap (split n Y) d ∙ own-cut n t Y Y′ x G)
+        ∙ some-zero)
 
     kept₁ : some (split n Y z₁) ≡ true
     kept₁ = ap some (sym (T .same)) ∙ T .kept
@@ -129,7 +157,8 @@ module _ (n : ℕ) (t : List ℕ) (Y Y′ x : ℕ) (G : Grown n t Y Y′ x) wher
         (eqb-false z mine (w .0), eqb-false z z₁ (or-neither (eqb z z₁) false (w .1) .0))
 
     -- each split over Y has a lift
-    lift : (w : ℕ) → mem w (splits n t Y) ≡ true → (z : ℕ) × (mem z (splits n t Y′) ≡ true) × (mem z besides ≡ false) × (split n Y z ≡ w)
+    lift : (w : ℕ) → mem w (splits n t Y) ≡ true → (z : ℕ) × (mem z (splits n t Y′) ≡ true)
+        × (mem z besides ≡ false) × (split n Y z ≡ w)
     lift w h = go (either (eqb z z₁))
       where
         r : (r : ℕ) × (r < rows n) × (some w ≡ true) × (w ≡ num n t Y r)
@@ -144,16 +173,29 @@ module _ (n : ℕ) (t : List ℕ) (Y Y′ x : ℕ) (G : Grown n t Y Y′ x) wher
         kept : some (split n Y z) ≡ true
         kept = ap some back ∙ r .2
 
-        go : (eqb z z₁ ≡ true) ⊎ (eqb z z₁ ≡ false) → (z : ℕ) × (mem z (splits n t Y′) ≡ true) × (mem z besides ≡ false) × (split n Y z ≡ w)
-        go (inl q) = (z₀, T .in₀, free-of z₀ (not-mine z₀ (T .kept)) (T .apart), T .same ∙ ap (split n Y) (sym (eqb-true z z₁ q)) ∙ back)
-        go (inr q) = (z, kept-in n t Y′ (G .bound′) z (r .0) (r .1) up refl, free-of z (not-mine z kept) (eqb-false z z₁ q), back)
+        go : (eqb z z₁ ≡ true) ⊎ (eqb z z₁ ≡ false) → (z : ℕ) × (mem z (splits n t Y′) ≡ true)
+            × (mem z besides ≡ false) × (split n Y z ≡ w)
+        go (inl q) = (
+          z₀,
+          T .in₀,
+          free-of z₀ (not-mine z₀ (T .kept)) (T .apart),
+          T .same ∙ ap (split n Y) (sym (eqb-true z z₁ q)) ∙ back,
+        )
+        go (inr q) = (
+          z,
+          kept-in n t Y′ (G .bound′) z (r .0) (r .1) up refl,
+          free-of z (not-mine z kept) (eqb-false z z₁ q),
+          back,
+        )
           where
             up : some z ≡ true
-            up = meets-some n Y′ (side n t (r .0)) (meets-mono Y Y′ (side n t (r .0)) (sub n t Y Y′ x G)
+            up = meets-some n Y′ (side n t (r .0))
+                (meets-mono Y Y′ (side n t (r .0)) (sub n t Y Y′ x G)
                 (some-meets n Y (side n t (r .0)) (G .bound) (ap some (sym (r .3)) ∙ r .2)))
 
     -- and no two besides
-    one-lift : (z z′ : ℕ) → Left (splits n t Y′) besides z → Left (splits n t Y′) besides z′ → split n Y z ≡ split n Y z′ → z ≡ z′
+    one-lift : (z z′ : ℕ) → Left (splits n t Y′) besides z → Left (splits n t Y′) besides z′
+        → split n Y z ≡ split n Y z′ → z ≡ z′
     unfolding mine
     one-lift z z′ l l′ e = go (either (eqb z z′))
       where
@@ -170,14 +212,17 @@ module _ (n : ℕ) (t : List ℕ) (Y Y′ x : ℕ) (G : Grown n t Y Y′ x) wher
               in₀ = l .there;
               in₁ = l′ .there;
               same = e;
-              kept = kept-out n t Y (G .bound) (split n Y z) (down n t Y Y′ x G z (l .there) (o .0)) .2;
+              kept = kept-out n t Y (G .bound) (split n Y z)
+                  (down n t Y Y′ x G z (l .there) (o .0)) .2;
               apart = eqb-false z z′ q;
             } in
-            let one : split n Y z₁ ≡ split n Y z = sym (T .same) ∙ meet-one n t Y Y′ x G z₀ z₁ z z′ T U in
+            let one : split n Y z₁ ≡ split n Y z =
+            sym (T .same) ∙ meet-one n t Y Y′ x G z₀ z₁ z z′ T U in
             let a₁ = again n t Y Y′ x G z₁ (T .in₁) in
             let a = again n t Y Y′ x G z (l .there) in
             let a′ = again n t Y Y′ x G z′ (l′ .there) in
-            sym a ∙ two-lifts n t Y Y′ x G z₁ z z′ one (one ∙ e) (λ d. o .1 (sym a ∙ sym d ∙ a₁)) (λ d. o′ .1 (sym a′ ∙ sym d ∙ a₁)) ∙ a′
+            sym a ∙ two-lifts n t Y Y′ x G z₁ z z′ one (one ∙ e) (λ d. o .1 (sym a ∙ sym d ∙ a₁))
+            (λ d. o′ .1 (sym a′ ∙ sym d ∙ a₁)) ∙ a′
 
     -- so the splits besides the two are as many as those over Y
     grow-more : length (splits n t Y′) ≡ length (splits n t Y) + 2
@@ -187,14 +232,19 @@ module _ (n : ℕ) (t : List ℕ) (Y Y′ x : ℕ) (G : Grown n t Y Y′ x) wher
         let S′ = splits n t Y′ in
         let c₁ : suc (lacks S′ (z₁ ∷ [])) ≡ lacks S′ [] = lacks-cons z₁ S′ [] dis (T .in₁) refl in
         let c₂ : suc (lacks S′ besides) ≡ lacks S′ (z₁ ∷ [])
-        = lacks-cons mine S′ (z₁ ∷ []) dis (own-in n t Y Y′ x G a ya) (ap (λ (u : Bool). u || false) (ne-eqb mine z₁ (λ d. not-mine z₁ kept₁ (sym d)))) in
-        let some-way : lacks S [] ≤ lacks S′ besides = lacks-le′ (split n Y) S [] S′ besides (asc-distinct S (splits-asc n t Y)) (λ w h f. lift w h) in
+        = lacks-cons mine S′ (z₁ ∷ []) dis (own-in n t Y Y′ x G a ya)
+        (ap (λ (u : Bool). u || false) (ne-eqb mine z₁ (λ d. not-mine z₁ kept₁ (sym d)))) in
+        let some-way : lacks S [] ≤ lacks S′ besides =
+        lacks-le′ (split n Y) S [] S′ besides (asc-distinct S (splits-asc n t Y))
+        (λ w h f. lift w h) in
         let one-way : lacks S′ besides ≤ lacks S []
-        = lacks-inj (split n Y) S′ besides S dis (λ z l. down n t Y Y′ x G z (l .there) (of-free z (l .free) .0)) one-lift in
+        = lacks-inj (split n Y) S′ besides S dis
+        (λ z l. down n t Y Y′ x G z (l .there) (of-free z (l .free) .0)) one-lift in
         omega (arith, lacks-nil S, lacks-nil S′)
 
   -- with two taxa before, x adds two splits
-  grow-two : (a b : ℕ) → has Y a ≡ true → has Y b ≡ true → (a ≡ b → ⊥) → length (splits n t Y′) ≡ length (splits n t Y) + 2
+  grow-two : (a b : ℕ) → has Y a ≡ true → has Y b ≡ true → (a ≡ b → ⊥)
+      → length (splits n t Y′) ≡ length (splits n t Y) + 2
   grow-two a b ya yb ab =
       let w = found n t Y Y′ x G a b ya yb ab in
       grow-more a ya (w .0) (w .1) (w .2)
@@ -230,9 +280,11 @@ module _ (n : ℕ) (t : List ℕ) (y : ℕ) (vt : Valid n t) where
 
   -- one place more is the taxon there, where it is a member
   low-step : (k i : ℕ) → has (low (suc k)) i ≡ (has (low k) i || has y k && eqb k i)
-  low-step k i = has-low (suc k) i ∙ go (either (eqb k i)) ∙ sym (ap (λ (u : Bool). u || has y k && eqb k i) (has-low k i))
+  low-step k i = has-low (suc k) i ∙ go (either (eqb k i))
+      ∙ sym (ap (λ (u : Bool). u || has y k && eqb k i) (has-low k i))
     where
-      go : (eqb k i ≡ true) ⊎ (eqb k i ≡ false) → (ltb i (suc k) && has y i) ≡ (ltb i k && has y i || has y k && eqb k i)
+      go : (eqb k i ≡ true) ⊎ (eqb k i ≡ false)
+          → (ltb i (suc k) && has y i) ≡ (ltb i k && has y i || has y k && eqb k i)
       go (inl q) =
           let d : i ≡ k = sym (eqb-true k i q) in
           let u : ltb k (suc k) ≡ true = lt-ltb k (suc k) (le-refl (suc k)) in
@@ -240,8 +292,10 @@ module _ (n : ℕ) (t : List ℕ) (y : ℕ) (vt : Valid n t) where
           let r : eqb k k ≡ true = eq-eqb k k refl in
           rw (d, u, v, r) (sym (and-true (has y k)))
       go (inr q) =
-          let u : (has y k && eqb k i) ≡ false = ap (λ (b : Bool). has y k && b) q ∙ and-false-r (has y k) in
-          ap (λ (b : Bool). b && has y i) (ltb-step i k (eqb-false k i q)) ∙ sym (ap (λ (b : Bool). ltb i k && has y i || b) u ∙ or-false (ltb i k && has y i))
+          let u : (has y k && eqb k i) ≡ false =
+          ap (λ (b : Bool). has y k && b) q ∙ and-false-r (has y k) in
+          ap (λ (b : Bool). b && has y i) (ltb-step i k (eqb-false k i q))
+          ∙ sym (ap (λ (b : Bool). ltb i k && has y i || b) u ∙ or-false (ltb i k && has y i))
 
   -- place k adds its taxon, or nothing
   grown-low : (k : ℕ) → k < n → has y k ≡ true → Grown n t (low k) (low (suc k)) k
@@ -255,40 +309,51 @@ module _ (n : ℕ) (t : List ℕ) (y : ℕ) (vt : Valid n t) where
   }
 
   same-low : (k : ℕ) → has y k ≡ false → low (suc k) ≡ low k
-  same-low k p = ext (low (suc k)) (low k) (λ i. low-step k i ∙ ap (λ (b : Bool). has (low k) i || b && eqb k i) p ∙ or-false (has (low k) i))
+  same-low k p = ext (low (suc k)) (low k)
+      (λ i. low-step k i ∙ ap (λ (b : Bool). has (low k) i || b && eqb k i) p
+      ∙ or-false (has (low k) i))
 
   -- the number of splits over the members below k
   stage : (k : ℕ) → k ≤ n → length (splits n t (low k)) ≡ 2 * size k y - 3
   unfolding size
-  stage zero h = few-none n t (low 0) (low-lt 0 h) (λ i j p q. absurd (omega (arith, low-out 0 i p .0)))
+  stage zero h = few-none n t (low 0) (low-lt 0 h)
+      (λ i j p q. absurd (omega (arith, low-out 0 i p .0)))
   stage (suc k) h = go (stage k (omega arith)) (has y k) refl
     where
-      go : length (splits n t (low k)) ≡ 2 * size k y - 3 → (b : Bool) → has y k ≡ b → length (splits n t (low (suc k))) ≡ 2 * (tally b + size k y) - 3
+      go : length (splits n t (low k)) ≡ 2 * size k y - 3 → (b : Bool) → has y k ≡ b
+          → length (splits n t (low (suc k))) ≡ 2 * (tally b + size k y) - 3
       go ih false e = ap (λ (s : ℕ). length (splits n t s)) (same-low k e) ∙ ih ∙ omega arith
       go ih true e = at (size k y) refl ih
         where
           G : Grown n t (low k) (low (suc k)) k
           G = grown-low k h e
 
-          at : (m : ℕ) → size k y ≡ m → length (splits n t (low k)) ≡ 2 * m - 3 → length (splits n t (low (suc k))) ≡ 2 * (1 + m) - 3
-          at zero w l = few-none n t (low (suc k)) (low-lt (suc k) h) (λ i j p q. sym (new i p) ∙ new j q)
+          at : (m : ℕ) → size k y ≡ m → length (splits n t (low k)) ≡ 2 * m - 3
+              → length (splits n t (low (suc k))) ≡ 2 * (1 + m) - 3
+          at zero w l = few-none n t (low (suc k)) (low-lt (suc k) h) (λ i j p q. sym (new i p)
+              ∙ new j q)
             where
               new : (i : ℕ) → has (low (suc k)) i ≡ true → k ≡ i
               new i p = last (or-cases (has (low k) i) (eqb k i) (sym (G .grown i) ∙ p))
                 where
                   last : (has (low k) i ≡ true) ⊎ (eqb k i ≡ true) → k ≡ i
-                  last (inl q) = let u = low-out k i q in absurd (omega (arith, size-pos k y i (u .0) (u .1)))
+                  last (inl q) = let u = low-out k i q in
+                      absurd (omega (arith, size-pos k y i (u .0) (u .1)))
                   last (inr q) = eqb-true k i q
           at (suc zero) w l =
               let u = find k y (omega arith) in
               grow-one n t (low k) (low (suc k)) k G (u .0) (low-in k (u .0) (u .1) (u .2)) l
           at (suc (suc m)) w l =
               let u = find-two k y (omega arith) in
-              grow-two n t (low k) (low (suc k)) k G (u .a) (u .b) (low-in k (u .a) (u .a-lt) (u .in-a)) (low-in k (u .b) (u .b-lt) (u .in-b)) (u .ab)
+              grow-two n t (low k) (low (suc k)) k G (u .a) (u .b)
+              (low-in k (u .a) (u .a-lt) (u .in-a)) (low-in k (u .b) (u .b-lt) (u .in-b))
+              (u .ab)
               ∙ omega arith
 
 -- ---- the number of splits
-pub members-count : (n : ℕ) (t : List ℕ) (y : ℕ) → Valid n t → y < 2 ^ n → length (splits n t y) ≡ members (size n y)
+pub members-count : (n : ℕ) (t : List ℕ) (y : ℕ) → Valid n t → y < 2 ^ n
+    → length (splits n t y) ≡ members (size n y)
 unfolding low
 members-count n t y vt b =
-    ap (λ (s : ℕ). length (splits n t s)) (sym (mod-eq-of-lt b)) ∙ stage n t y vt n (le-refl n) ∙ sym (members-is (size n y))
+    ap (λ (s : ℕ). length (splits n t s)) (sym (mod-eq-of-lt b)) ∙ stage n t y vt n (le-refl n)
+    ∙ sym (members-is (size n y))

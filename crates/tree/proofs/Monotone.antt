@@ -141,6 +141,12 @@ pub same-iff : (n : ℕ) (t u : List ℕ) (y : ℕ)
 unfolding distBy
 same-iff n t u y = (
   λ h. asc-eq (splits n t y) (splits n u y) (splits-asc n t y) (splits-asc n u y) (λ z.
-      bool-eq (mem z (splits n t y)) (mem z (splits n u y)) (none-lacks (splits n t y) (splits n u y) (omega arith) z) (none-lacks (splits n u y) (splits n t y) (omega arith) z)),
-  λ h. omega (arith, lacks-none (splits n t y) (splits n u y) (λ z p. ap (mem z) (sym h) ∙ p), lacks-none (splits n u y) (splits n t y) (λ z p. ap (mem z) h ∙ p)),
+      bool-eq (mem z (splits n t y)) (mem z (splits n u y))
+      (none-lacks (splits n t y) (splits n u y) (omega arith) z)
+      (none-lacks (splits n u y) (splits n t y) (omega arith) z)),
+  λ h. omega (
+    arith,
+    lacks-none (splits n t y) (splits n u y) (λ z p. ap (mem z) (sym h) ∙ p),
+    lacks-none (splits n u y) (splits n t y) (λ z p. ap (mem z) h ∙ p),
+  ),
 )

@@ -13,9 +13,11 @@ use Rattle.calls.specs.Calls.{gives, Pass}
 use Rattle.calls.proofs.CheckLaws.{gives-pass, judged-all}
 use Rattle.taxa.specs.Sets.{pick}
 use Rattle.taxa.proofs.Bools.{either, and-left, and-right, and-both}
-use Rattle.tree.specs.Tree.{lo, hi, rows, nodes, inOrder, rightDegree, fromZero, degree, wanted, Valid}
+use Rattle.tree.specs.Tree.{lo, hi, rows, nodes, inOrder, rightDegree, fromZero, degree}
+use Rattle.tree.specs.Tree.{wanted, Valid}
 use Rattle.tree.specs.Editions.{Edition, narrow}
-use Rattle.tree.specs.Refusals.{treeChecksOf, treeSaidOf, AcceptedOf, treeChecks, treeSaid, Accepted}
+use Rattle.tree.specs.Refusals.{treeChecksOf, treeSaidOf, AcceptedOf, treeChecks, treeSaid}
+use Rattle.tree.specs.Refusals.{Accepted}
 use Rattle.tree.proofs.RowCounts.{every-all, all-every}
 
 -- A table of the right length in bytes is read as two node numbers to a row.
@@ -39,16 +41,21 @@ module _ (E : Edition) (sized : Sized E) (n : ℕ) (b : List ℕ) where
           order = λ r l.
               let w = every-all (inOrder n t) (rows n) (p .1 .1 .0) r l in
               let high = and-right (ltb (lo t r) (hi t r)) (leb (hi t r) (2 * n - 3)) w in (
-                ltb-true (lo t r) (hi t r) (and-left (ltb (lo t r) (hi t r)) (leb (hi t r) (2 * n - 3)) w),
+                ltb-true (lo t r) (hi t r)
+                    (and-left (ltb (lo t r) (hi t r)) (leb (hi t r) (2 * n - 3)) w),
                 omega (arith, leb-true (hi t r) (2 * n - 3) high, big),
               );
           leaf = λ v a.
-              let w = every-all (rightDegree n t) (nodes n) (p .1 .1 .1 .0) v (omega (arith, big)) in
+              let w = every-all (rightDegree n t) (nodes n) (p .1 .1 .1 .0) v
+              (omega (arith, big)) in
               eqb-true (degree n t v) (wanted n v) w ∙ ap (λ (x : Bool). pick x 1 3) (lt-ltb v n a);
           inner = λ v a l.
               let w = every-all (rightDegree n t) (nodes n) (p .1 .1 .1 .0) v l in
               eqb-true (degree n t v) (wanted n v) w ∙ ap (λ (x : Bool). pick x 1 3) (le-ltb v n a);
-          connected = record { reached = λ v l. every-all (fromZero n t) (nodes n) (p .1 .1 .1 .1 .0) v l };
+          connected = record {
+            reached = λ v l. every-all (fromZero n t) (nodes n)
+                (p .1 .1 .1 .1 .0) v l;
+          };
         };
       }
 
@@ -73,16 +80,19 @@ module _ (E : Edition) (n : ℕ) (b : List ℕ) (a : AcceptedOf E n b) where
   accepted-passOf =
       let t = E .read b in
       let vt = a .valid in
-      let count = and-both (leb 4 n) (leb n (E .taxa)) (le-leb 4 n (vt .big)) (le-leb n (E .taxa) (a .few)) in
+      let count = and-both (leb 4 n) (leb n (E .taxa)) (le-leb 4 n (vt .big))
+      (le-leb n (E .taxa) (a .few)) in
       let long = eq-eqb (length b) (E .long (rows n)) (a .whole) in
       let ends = all-every (inOrder n t) (rows n) in-order in
-      let degrees = all-every (rightDegree n t) (nodes n) (λ v l. right-degree v l (either (ltb v n))) in
+      let degrees = all-every (rightDegree n t) (nodes n)
+      (λ v l. right-degree v l (either (ltb v n))) in
       let reached = all-every (fromZero n t) (nodes n) (λ v l. vt .connected .reached v l) in
       (count, (long, (ends, (degrees, (reached, tt)))))
 
 -- The checks 1 to 5 refuse nothing exactly where the table has its length and
 -- is valid, with no more taxa than the most.
-pub accepted-iffOf : (E : Edition) → Sized E → (n : ℕ) (b : List ℕ) → (treeSaidOf E n b ≡ gives tt) ↔ AcceptedOf E n b
+pub accepted-iffOf : (E : Edition) → Sized E → (n : ℕ) (b : List ℕ)
+    → (treeSaidOf E n b ≡ gives tt) ↔ AcceptedOf E n b
 accepted-iffOf E sized n b = (
   λ h. pass-acceptedOf E sized n b (gives-pass (treeChecksOf E n b) tt tt h),
   λ a. judged-all (treeChecksOf E n b) tt (accepted-passOf E n b a),

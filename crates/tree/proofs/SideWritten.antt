@@ -9,14 +9,11 @@ use native.Mathlib.Omega.{arith}
 use lib.Arith.{lt-of-le-ne}
 use lib.Bits.{bitAnd}
 use lib.Dec.{eqb, ltb}
-use borrow.Author.Tests.{ltb-true, ltb-false, lt-ltb, le-ltb}
-use borrow.Author.Tests.{eqb-true, eqb-false, eq-eqb, ne-eqb}
+use borrow.Author.Tests.{ltb-true, ltb-false, lt-ltb, le-ltb, eqb-true, eqb-false, eq-eqb, ne-eqb}
 use Rattle.taxa.specs.Sets.{pick, has, less, some, size, lowest, Sub}
 use Rattle.taxa.proofs.Bools.{either, and-both, _⊕_}
-use Rattle.taxa.proofs.Sets.{has-and, has-less, has-below, has-lowest}
-use Rattle.taxa.proofs.Sets.{sub-inside, sub-less, sub-lt}
-use Rattle.taxa.proofs.Sets.{some-has, some-mono, some-false, some-lowest}
-use Rattle.taxa.proofs.Sets.{lowest-lt, lowest-wide}
+use Rattle.taxa.proofs.Sets.{has-and, has-less, has-below, has-lowest, sub-inside, sub-less, sub-lt}
+use Rattle.taxa.proofs.Sets.{some-has, some-mono, some-false, some-lowest, lowest-lt, lowest-wide}
 use Rattle.taxa.proofs.Sizes.{size-pos, size-none, size-wide}
 use Rattle.tree.specs.Splits.{meets, splitBy, holdsLowest, flips, split}
 use Rattle.tree.proofs.Choices.{Like, Fair, side-like, other-by, own-by}

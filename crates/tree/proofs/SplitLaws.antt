@@ -16,7 +16,8 @@ use Rattle.taxa.proofs.Sets.{has-mod, has-below, some-zero, some-false}
 use Rattle.tree.specs.Tree.{lo, rows, part}
 use Rattle.tree.specs.Lists.{mem, Asc}
 use Rattle.tree.specs.Splits.{side, meets, flips, splitBy, split, splits}
-use Rattle.tree.proofs.Choices.{Like, same-by, some-by, like-by, twice-by, numBy, asc-by, into, out-of}
+use Rattle.tree.proofs.Choices.{Like, same-by, some-by, like-by, twice-by, numBy, asc-by}
+use Rattle.tree.proofs.Choices.{into, out-of}
 use Rattle.tree.proofs.SideWritten.{flips-fair, flips-wide}
 use Rattle.tree.proofs.Bridges.{Table}
 use Rattle.tree.proofs.Colourings.{Parts, parts-unique, row-parts}

@@ -10,8 +10,7 @@ use Rattle.calls.specs.declared.Refusal.{Refusal}
 use Rattle.calls.specs.Calls.{Check, _else_, Said, judged}
 use Rattle.taxa.specs.Most.{mostPartitions}
 use Rattle.taxa.specs.Sets.{inSome}
-use Rattle.tree.specs.Tree.{rows, nodes, inOrder, rightDegree, fromZero}
-use Rattle.tree.specs.Tree.{every, Valid}
+use Rattle.tree.specs.Tree.{rows, nodes, inOrder, rightDegree, fromZero, every, Valid}
 use Rattle.tree.specs.Editions.{Edition, narrow}
 
 -- ---- a tree, in any edition
@@ -92,7 +91,8 @@ allSeen n ys = every (inSome ys) n
 -- taxon n or above. Then 16: a taxon is in no partition.
 abbrev pub partitionsChecks : ℕ → List ℕ → List Check
 partitionsChecks n ys =
-    ((leb 1 (length ys) && leb (length ys) mostPartitions && each (λ y. ltb y (2 ^ n)) ys) else Refusal.Partition)
+    ((leb 1 (length ys) && leb (length ys) mostPartitions && each (λ y. ltb y (2 ^ n)) ys) else
+    Refusal.Partition)
     ∷ (allSeen n ys else Refusal.Unseen)
     ∷ []
 

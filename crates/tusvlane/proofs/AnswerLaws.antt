@@ -4,9 +4,9 @@ use Prim.Native.Nat.{ℕ}
 use Rattle.calls.specs.declared.Refusal.{Refusal}
 use Rattle.calls.specs.Refusals.{numberOf}
 use Rattle.calls.specs.Calls.{gives, refusesAt}
-use Rattle.job.specs.Steps.{ended}
-use Rattle.job.specs.Runs.{first}
-use Rattle.job.specs.declared.State.{State}
+use Rattle.jobs.specs.Steps.{ended}
+use Rattle.jobs.specs.Runs.{first}
+use Rattle.jobs.specs.declared.State.{State}
 use Rattle.tusvlane.specs.declared.Placed.{Placed}
 use Rattle.tusvlane.specs.Answers.{stepAnswerOf}
 
@@ -22,6 +22,8 @@ pub ended-is : {s : State} → s ≡ first
 ended-is z = ap (λ (x : State). record { refusal = 0; ended = 1; place = 0; wrote = 0; next = x }) z
 
 pub stopped-is : {j : ℕ} (k : Refusal) (p : ℕ) {s : State} → j ≡ numberOf k → s ≡ first
-    → record { refusal = j; ended = 0; place = p; wrote = 0; next = s } ≡ stepAnswerOf (refusesAt k p)
+    → record { refusal = j; ended = 0; place = p; wrote = 0; next = s }
+    ≡ stepAnswerOf (refusesAt k p)
 stopped-is k p e z =
-    ap₂ (λ (i : ℕ) (x : State). record { refusal = i; ended = 0; place = p; wrote = 0; next = x }) e z
+    ap₂ (λ (i : ℕ) (x : State). record { refusal = i; ended = 0; place = p; wrote = 0; next = x }) e
+    z

@@ -9,17 +9,16 @@ use Rattle.tree.specs.Refusals.{treeSaid}
 use Rattle.moves.specs.Moves.{Move}
 use Rattle.moves.specs.Verdicts.{movedSaid, judgedSaid, judgedOneSaid}
 use Rattle.splits.specs.Promises.{inducedSaid, comparedSaid}
-use Rattle.rules.specs.Each.{zeros}
+use Rattle.rules.specs.Zeros.{zeros}
 use Rattle.listing.specs.Listing.{linesSaid, Page, placeAfter, movedWith}
 use Rattle.reader.specs.Promises.{Reads}
-use Rattle.job.specs.Steps.{Lent, stepped, toldOf, lentBy}
-use Rattle.job.specs.declared.State.{State}
+use Rattle.jobs.specs.Steps.{Lent, stepped, toldOf, lentBy}
+use Rattle.jobs.specs.declared.State.{State}
 use Rattle.tusvlane.specs.declared.Answer.{Answer}
 use Rattle.tusvlane.specs.declared.Comparison.{Comparison}
 use Rattle.tusvlane.specs.declared.Placed.{Placed}
 use Rattle.tusvlane.specs.declared.StepAnswer.{StepAnswer}
-use Rattle.tusvlane.specs.Answers.{answerOf, comparisonOf, placedOf}
-use Rattle.tusvlane.specs.Answers.{stepAnswerOf}
+use Rattle.tusvlane.specs.Answers.{answerOf, comparisonOf, placedOf, stepAnswerOf}
 
 -- tusvlane_check_tree: 0, or a refusal.
 abbrev pub Checks : ℕ → List ℕ → ℕ → Type 0

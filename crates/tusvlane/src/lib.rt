@@ -4,15 +4,15 @@ ghost use mathlib.Core.Path.{_≡_};
 ghost use Rattle.calls.specs.Calls.{refuses};
 ghost use Rattle.fits.specs.Entries.{moveOf};
 ghost use Rattle.listing.specs.Listing.{page};
-ghost use Rattle.job.specs.Runs as runs;
-ghost use Rattle.job.specs.Steps.{lending};
+ghost use Rattle.jobs.specs.Runs as runs;
+ghost use Rattle.jobs.specs.Steps.{lending};
 ghost use Rattle.tusvlane.specs.Answers.{answerOf};
 ghost use Rattle.tusvlane.specs.Promises.{Checks, Induces, Compares, Applies};
 ghost use Rattle.tusvlane.specs.Promises.{Judges, JudgesOne, Lists, Plants, Steps};
 use calls::Refusal;
 use fits::Move;
-use job::State;
-use job::Stepped;
+use jobs::State;
+use jobs::Stepped;
 use judge::Judged;
 use judge::Moved;
 use judge::Verdict;
@@ -223,7 +223,7 @@ pub extern "C" fn tusvlane_read_newick(n: usize, text: &[u8], out: &mut [u8]) ->
 pub extern "C" fn tusvlane_start() -> State
     ensures { λ s. ⌜ s ≡ runs.first ⌝ }
 {
-    job::start()
+    jobs::start()
 }
 
 // The step over one field of a job, from the state the last step gave.
@@ -253,14 +253,14 @@ pub extern "C" fn tusvlane_step(
             ended: 1,
             place: 0,
             wrote: 0,
-            next: job::start(),
+            next: jobs::start(),
         },
         Stepped::Refused { why, place } => StepAnswer {
             refusal: calls::number(why) as u64,
             ended: 0,
             place,
             wrote: 0,
-            next: job::start(),
+            next: jobs::start(),
         },
     }
 }

@@ -15,17 +15,18 @@ use Rattle.tree.specs.Splits.{side}
 use Rattle.tree.specs.Refusals.{Accepted}
 use Rattle.tree.proofs.Joins.{hi-touch, far-hi, joins-differ}
 use Rattle.tree.proofs.Ends.{end-joins, far-end, far-far, side-hi}
-use Rattle.sides.specs.Filled.{At, Sides}
+use Rattle.sides.specs.Between.{At, Sides}
 use Rattle.sides.proofs.FillLaws.{at-end}
 use Rattle.moves.specs.Moves.{endWith, target}
 use Rattle.moves.specs.Groups.{beyond, leads}
-use Rattle.moves.proofs.Leads.{parts, leads-beyond, leads-parts}
+use Rattle.moves.proofs.Ways.Leads.{parts, leads-beyond, leads-parts}
 
 -- ---- what lies beyond a row
 less-twice : (n s : ℕ) → less (full n) (less (full n) (s % 2 ^ n)) ≡ s % 2 ^ n
 less-twice n s = ext (less (full n) (less (full n) (s % 2 ^ n))) (s % 2 ^ n) (λ i.
     has-less (full n) (less (full n) (s % 2 ^ n)) i
-    ∙ ap₂ (λ (p q : Bool). p && not q) (has-ones n i) (has-less (full n) (s % 2 ^ n) i ∙ ap₂ (λ (p q : Bool). p && not q) (has-ones n i) (has-mod n s i))
+    ∙ ap₂ (λ (p q : Bool). p && not q) (has-ones n i) (has-less (full n) (s % 2 ^ n) i
+    ∙ ap₂ (λ (p q : Bool). p && not q) (has-ones n i) (has-mod n s i))
     ∙ bools (ltb i n) (has s i) ∙ sym (has-mod n s i))
   where
     bools : (p q : Bool) → (p && not (p && not (p && q))) ≡ (p && q)
@@ -45,8 +46,10 @@ module _ {n : ℕ} {t s : List ℕ} {v x : ℕ} (a : At n t x v) (S : Sides n t 
   unfolding beyond
   from-lo d =
       let E = at-end a in
-      let apart : lo t x ≡ far t x v → ⊥ = λ w. joins-differ n t x (E .valid) (a .row) v (far t x v) (end-joins E) (sym d ∙ w) in
-      ap (less (full n)) (S .right x (a .row) ∙ sym (side-hi (far-end E) apart)) ∙ less-twice n (part n t x (far t x v))
+      let apart : lo t x ≡ far t x v → ⊥ =
+      λ w. joins-differ n t x (E .valid) (a .row) v (far t x v) (end-joins E) (sym d ∙ w) in
+      ap (less (full n)) (S .right x (a .row) ∙ sym (side-hi (far-end E) apart))
+      ∙ less-twice n (part n t x (far t x v))
 
 -- ---- the test of leading
 pub leads-self : (n : ℕ) (t : List ℕ) (b v x : ℕ) → x ≡ b → true ≡ leads n t b v x
@@ -54,7 +57,8 @@ unfolding leads
 leads-self n t b v x d =
     sym (ap (λ (c : Bool). c || has (part n t x (far t x v)) (lo t b)) (eq-eqb x b d))
 
-module _ {n : ℕ} {t s : List ℕ} {v x b y : ℕ} (a : At n t x v) (S : Sides n t s) (lb : b < rows n) (d : x ≡ b → ⊥) (h : y ≡ beyond n t v x) where
+module _ {n : ℕ} {t s : List ℕ} {v x b y : ℕ} (a : At n t x v) (S : Sides n t s) (lb : b < rows n)
+    (d : x ≡ b → ⊥) (h : y ≡ beyond n t v x) where
   leads-by : parts y (getD s b 0) ≡ leads n t b v x
   leads-by = ap₂ parts h (S .right b lb) ∙ leads-parts (at-end a) lb (λ w. d (sym w))
 
@@ -64,7 +68,8 @@ module _ {n : ℕ} {t s : List ℕ} {v x b y : ℕ} (a : At n t x v) (S : Sides 
       let i = bitAnd y (getD s b 0) in
       sym (ap (λ (c : Bool). not c && not (eqb i y)) (eq-eqb i 0 z)) ∙ leads-by
 
-  pub leads-some : (bitAnd y (getD s b 0) ≡ 0 → ⊥) → not (eqb (bitAnd y (getD s b 0)) y) ≡ leads n t b v x
+  pub leads-some : (bitAnd y (getD s b 0) ≡ 0 → ⊥)
+      → not (eqb (bitAnd y (getD s b 0)) y) ≡ leads n t b v x
   unfolding parts some
   leads-some z =
       let i = bitAnd y (getD s b 0) in
@@ -76,13 +81,15 @@ module _ {n : ℕ} {t : List ℕ} {a : ℕ} (good : Accepted n t) (la : a < rows
   pub hi-at : {q : ℕ} → q ≡ hi t a → At n t a q
   hi-at h = rw h (record { good = good; row = la; touch = hi-touch t a })
 
-  pub end-is : {b : ℕ} → b < rows n → (a ≡ b → ⊥) → {q : ℕ} {l : Bool} → q ≡ hi t a → leads n t b q a ≡ l
+  pub end-is : {b : ℕ} → b < rows n → (a ≡ b → ⊥) → {q : ℕ} {l : Bool} → q ≡ hi t a
+      → leads n t b q a ≡ l
       → pick l (lo t a) (hi t a) ≡ endWith n t a b
   unfolding endWith
   end-is {b} lb ab h k =
       let across = ap (far t a) h ∙ far-hi n t a (good .valid) la in
       ap (λ (c : Bool). pick c (lo t a) (hi t a))
-      (sym k ∙ leads-beyond (at-end (hi-at h)) lb (λ d. ab (sym d)) ∙ ap (λ (x : ℕ). has (part n t a x) (lo t b)) across)
+      (sym k ∙ leads-beyond (at-end (hi-at h)) lb (λ d. ab (sym d))
+      ∙ ap (λ (x : ℕ). has (part n t a x) (lo t b)) across)
 
 -- ---- whether b lies in the part of row a's end v: a leads to it from its
 -- other end

@@ -3,41 +3,43 @@
 use mathlib.Core.Path.{_≡_, refl, sym, ap, ap₂, _∙_, subst}
 use mathlib.Core.Logic.{_⊎_, inl, inr}
 use mathlib.Core.Bool.{true, false, true≢false}
-use mathlib.Core.List.{List, [], _∷_, _++_, append-assoc}
+use mathlib.Core.List.{List, [], _∷_, _++_}
 use Prim.Native.Nat.{ℕ, suc, _+_, _-_, _^_, _≤_, _<_}
-use native.Mathlib.Numerals.{add-one}
 use native.Mathlib.Omega.{arith}
-use lib.ListN.{length, getD, set, drop, length-set, length-append}
-use lib.Seq.{drop-cons, set-at}
+use lib.ListN.{length, set, length-set}
 use borrow.Author.Tests.{eq-eqb, ne-eqb, lt-ltb, le-ltb}
+use Rattle.calls.proofs.StartLaws.{wrote-more}
 use Rattle.taxa.specs.Sets.{has, size}
 use Rattle.taxa.proofs.Sizes.{size-le, size-pos}
 use Rattle.tree.specs.Tree.{lo, rows, nodes, touches, far, part}
 use Rattle.tree.proofs.Rounds.{part-start}
 use Rattle.tree.proofs.RowCounts.{Pair}
 use Rattle.tree.proofs.Ends.{end-node}
-use Rattle.sides.specs.Filled.{At}
+use Rattle.sides.specs.Between.{At}
 use Rattle.sides.proofs.FillLaws.{at-end}
 use Rattle.moves.specs.Groups.{beyond, leads, onward, aside, walk, stayed}
-use Rattle.moves.proofs.GroupLists.{snoc}
-use Rattle.moves.proofs.Leads.{Turn, turn, not-taxon, leads-beyond}
-use Rattle.moves.proofs.WalkIs.{on-is, off-is, walk-last, walk-next}
-use Rattle.moves.proofs.Aims.{Aim, Taxon, Inner, kind, inner-groups}
-use Rattle.moves.specs.Plans.{sideGroups}
+use Rattle.moves.proofs.Ways.GroupLists.{snoc}
+use Rattle.moves.proofs.Ways.Leads.{Turn, turn, not-taxon, leads-beyond}
+use Rattle.moves.proofs.Ways.Found.{on-is, off-is, walk-last, walk-next}
+use Rattle.moves.proofs.Tbr.Aims.{Aim, Taxon, Inner, kind, inner-groups}
+use Rattle.moves.specs.Between.{sideGroups}
 use Rattle.moves.specs.declared.Side.{Side}
-use Rattle.walks.specs.Way.{room, Paced, Asked, Listed}
+use Rattle.walks.specs.Between.{room, Paced, Asked, Listed}
 use Rattle.walks.proofs.RowLaws.{far-at}
 
 -- ---- a list that grows in a lent one
 listed-none : (m : ℕ) (o : List ℕ) → Listed m [] o 0 o
-listed-none m o = record { count = refl; few = omega arith; memory = refl; len = refl }
-
-listed-more : (m : ℕ) (gs o : List ℕ) (c : ℕ) (out : List ℕ) (x : ℕ) → c < m → c < length o → Listed m gs o c out → Listed m (gs ++ (x ∷ [])) o (c + 1) (set out c x)
-listed-more m gs o c out x lm lo L = record {
-  count = sym (length-append gs (x ∷ []) ∙ ap (λ (k : ℕ). k + 1) (sym (L .count)));
+listed-none m o = record {
+  wrote = record { count = refl; memory = refl };
   few = omega arith;
-  memory = ap (λ (r : List ℕ). set r c x) (L .memory ∙ ap (λ (r : List ℕ). gs ++ r) (drop-cons o c 0 lo))
-      ∙ set-at gs (getD o c 0) (drop (suc c) o) x c (sym (L .count)) ∙ rw (add-one c, append-assoc);
+  len = refl;
+}
+
+listed-more : (m : ℕ) (gs o : List ℕ) (c : ℕ) (out : List ℕ) (x : ℕ) → c < m → c < length o
+    → Listed m gs o c out → Listed m (gs ++ (x ∷ [])) o (c + 1) (set out c x)
+listed-more m gs o c out x lm lo L = record {
+  wrote = wrote-more (L .wrote) x lo;
+  few = omega arith;
   len = length-set out c x ∙ L .len;
 }
 
@@ -62,14 +64,16 @@ module _ {n : ℕ} {t : List ℕ} {e v f g : ℕ} (a : At n t e v) (K : Pair n t
 
 -- ---- one step, f and g being those rows
 module _ {n : ℕ} {t : List ℕ} {e v f g : ℕ} (K : Pair n t e v f g) {b : ℕ} where
-  pub paced-first : leads n t b v f ≡ true → {off : ℕ} → off ≡ beyond n t v g → Paced n t b v e f off
+  pub paced-first : leads n t b v f ≡ true → {off : ℕ} → off ≡ beyond n t v g
+      → Paced n t b v e f off
   paced-first h k =
       record {
         leads-on = sym (on-is n t b e v f g (K .list) true h);
         hangs-off = k ∙ ap (beyond n t v) (sym (off-is n t b e v f g (K .list) true h));
       }
 
-  pub paced-second : leads n t b v f ≡ false → {off : ℕ} → off ≡ beyond n t v f → Paced n t b v e g off
+  pub paced-second : leads n t b v f ≡ false → {off : ℕ} → off ≡ beyond n t v f
+      → Paced n t b v e g off
   paced-second h k =
       record {
         leads-on = sym (on-is n t b e v f g (K .list) false h);
@@ -77,7 +81,8 @@ module _ {n : ℕ} {t : List ℕ} {e v f g : ℕ} (K : Pair n t e v f g) {b : �
       }
 
 -- ---- an end of row a, and what its groups ask for
-module _ {n : ℕ} {t near s : List ℕ} {a : ℕ} {end : Side} {o : List ℕ} (K : Asked n t near s a end o) where
+module _ {n : ℕ} {t near s : List ℕ} {a : ℕ} {end : Side} {o : List ℕ}
+    (K : Asked n t near s a end o) where
   pub asked-at : At n t a (end .node)
   asked-at = record { good = K .looked .good; row = K .row; touch = K .right .touch }
 
@@ -97,9 +102,11 @@ module _ {n : ℕ} {t near s : List ℕ} {a : ℕ} {end : Side} {o : List ℕ} (
     inner : Inner n t a (end .node) (end .target)
     inner = go (kind A)
       where
-        go : Taxon n a (end .node) (end .target) ⊎ Inner n t a (end .node) (end .target) → Inner n t a (end .node) (end .target)
+        go : Taxon n a (end .node) (end .target) ⊎ Inner n t a (end .node) (end .target)
+            → Inner n t a (end .node) (end .target)
         go (inl w) =
-            absurd (true≢false (sym (K .right .touch) ∙ ap (λ (r : ℕ). touches t r (end .node)) (sym (w .1)) ∙ K .right .aim goes .1))
+            absurd (true≢false (sym (K .right .touch)
+            ∙ ap (λ (r : ℕ). touches t r (end .node)) (sym (w .same)) ∙ K .right .aim goes .1))
         go (inr w) = w
 
     pub walked-start : Walked n t (end .target) (end .node) a o o (end .node) a 0
@@ -107,30 +114,40 @@ module _ {n : ℕ} {t near s : List ℕ} {a : ℕ} {end : Side} {o : List ℕ} (
         record {
           here = asked-at;
           b-lt = K .right .row;
-          be = inner .1;
-          ahead = inner .2;
+          be = inner .ba;
+          ahead = inner .there;
           fuel = omega (arith, size-le (nodes n) (part n t a (end .node)));
           gs = [];
           listed = listed-none room o;
-          rest = let z : nodes n - 0 ≡ nodes n = omega arith in ap (λ (k : ℕ). walk n t (end .target) k (end .node) a) z;
+          rest = let z : nodes n - 0 ≡ nodes n = omega arith in
+              ap (λ (k : ℕ). walk n t (end .target) k (end .node) a) z;
         }
 
-    pub way-all : {out : List ℕ} {k : ℕ} → Listed room (walk n t (end .target) (nodes n) (end .node) a) o k out
+    pub way-all : {out : List ℕ} {k : ℕ}
+        → Listed room (walk n t (end .target) (nodes n) (end .node) a) o k out
         → Listed room (sideGroups n t a end) o k out
     unfolding sideGroups
-    way-all {out} {k} L = rw goes (subst (λ (gs : List ℕ). Listed room gs o k out) (sym (inner-groups A (inner .0))) L)
+    way-all {out} {k} L = rw goes
+        (subst (λ (gs : List ℕ). Listed room gs o k out) (sym (inner-groups A (inner .inner))) L)
 
   module _ (stays : end .goes ≡ false) where
-    pub stays-all : {out : List ℕ} {k : ℕ} → Listed 2 (stayed n t a (end .node)) o k out → Listed room (sideGroups n t a end) o k out
+    pub stays-all : {out : List ℕ} {k : ℕ} → Listed 2 (stayed n t a (end .node)) o k out
+        → Listed room (sideGroups n t a end) o k out
     unfolding sideGroups
-    stays-all {out} {k} L = rw stays (record { count = L .count; few = omega (arith, L .few); memory = L .memory; len = L .len })
+    stays-all {out} {k} L = rw stays
+        (record { wrote = L .wrote; few = omega (arith, L .few); len = L .len })
 
-module _ {n : ℕ} {t : List ℕ} {b v a : ℕ} {o out : List ℕ} {w e c : ℕ} (W : Walked n t b v a o out w e c) where
+module _ {n : ℕ} {t : List ℕ} {b v a : ℕ} {o out : List ℕ} {w e c : ℕ}
+    (W : Walked n t b v a o out w e c) where
   pub walked-inner : n ≤ w
   walked-inner = not-taxon (at-end (W .here)) (W .b-lt) (W .be) (W .ahead)
 
   pub walked-lt : c < nodes n
-  walked-lt = omega (arith, W .fuel, size-pos (nodes n) (part n t e w) w (end-node (at-end (W .here))) (part-start n t e w))
+  walked-lt = omega (
+    arith,
+    W .fuel,
+    size-pos (nodes n) (part n t e w) w (end-node (at-end (W .here))) (part-start n t e w),
+  )
 
   left : nodes n - c ≡ suc (nodes n - (c + 1))
   left = omega (arith, walked-lt)
@@ -146,17 +163,27 @@ module _ {n : ℕ} {t : List ℕ} {b v a : ℕ} {o out : List ℕ} {w e c : ℕ}
     T = rw h (turn (at-end (W .here)) walked-inner (W .b-lt) (W .be) (W .ahead))
 
     pub on-at : At n t on w
-    on-at = record { good = W .here .good; row = T .on-branch .at .row; touch = T .on-branch .at .touch }
+    on-at = record {
+      good = W .here .good;
+      row = T .on-branch .at .row;
+      touch =
+          T .on-branch .at .touch;
+    }
 
     -- one group more is written
     more : length o ≡ room → Listed room (W .gs ++ (off ∷ [])) o (c + 1) (set out c off)
-    more l = listed-more room (W .gs) o c out off (omega (arith, walked-lt, W .here .good .few)) (omega (arith, walked-lt, W .here .good .few)) (W .listed)
+    more l = listed-more room (W .gs) o c out off (omega (arith, walked-lt, W .here .good .few))
+        (omega (arith, walked-lt, W .here .good .few)) (W .listed)
 
     -- with what is left of the way
-    all : (r : List ℕ) → off ∷ r ≡ walk n t b (suc (nodes n - (c + 1))) w e → (W .gs ++ (off ∷ [])) ++ r ≡ walk n t b (nodes n) v a
-    all r q = sym (snoc (W .gs) r off) ∙ ap (λ (l : List ℕ). W .gs ++ l) (q ∙ ap (λ (j : ℕ). walk n t b j w e) (sym left)) ∙ W .rest
+    all : (r : List ℕ) → off ∷ r ≡ walk n t b (suc (nodes n - (c + 1))) w e
+        → (W .gs ++ (off ∷ [])) ++ r ≡ walk n t b (nodes n) v a
+    all r q = sym (snoc (W .gs) r off)
+        ∙ ap (λ (l : List ℕ). W .gs ++ l) (q ∙ ap (λ (j : ℕ). walk n t b j w e) (sym left))
+        ∙ W .rest
 
-    pub walked-next : (w′ : ℕ) → length o ≡ room → (on ≡ b → ⊥) → w′ ≡ far t on w → Walked n t b v a o (set out c off) w′ on (c + 1)
+    pub walked-next : (w′ : ℕ) → length o ≡ room → (on ≡ b → ⊥) → w′ ≡ far t on w
+        → Walked n t b v a o (set out c off) w′ on (c + 1)
     walked-next w′ l d hw = record {
       here = rw hw (far-at on-at);
       b-lt = W .b-lt;
@@ -166,24 +193,34 @@ module _ {n : ℕ} {t : List ℕ} {b v a : ℕ} {o out : List ℕ} {w e c : ℕ}
       gs = W .gs ++ (off ∷ []);
       listed = more l;
       rest = all (walk n t b (nodes n - (c + 1)) w′ on)
-          (ap₂ (λ (x : ℕ) (r : List ℕ). x ∷ r) k (ap₂ (walk n t b (nodes n - (c + 1))) (hw ∙ ap (λ (x : ℕ). far t x w) h) h)
-          ∙ sym (walk-next n t b (nodes n - (c + 1)) w e (ne-eqb (onward n t b w e) b (λ x. d (h ∙ x)))));
+          (ap₂ (λ (x : ℕ) (r : List ℕ). x ∷ r) k
+          (ap₂ (walk n t b (nodes n - (c + 1))) (hw ∙ ap (λ (x : ℕ). far t x w) h) h)
+          ∙ sym (walk-next n t b (nodes n - (c + 1)) w e
+          (ne-eqb (onward n t b w e) b (λ x. d (h ∙ x)))));
     }
 
-    pub walked-last : (x : ℕ) → length o ≡ room → on ≡ b → x ≡ beyond n t w b → Listed room (walk n t b (nodes n) v a) o (c + 1 + 1) (set (set out c off) (c + 1) x)
+    pub walked-last : (x : ℕ) → length o ≡ room → on ≡ b → x ≡ beyond n t w b
+        → Listed room (walk n t b (nodes n) v a) o (c + 1 + 1) (set (set out c off) (c + 1) x)
     walked-last x l d hx =
         subst (λ (gs : List ℕ). Listed room gs o (c + 1 + 1) (set (set out c off) (c + 1) x))
-        (all (x ∷ []) (ap₂ (λ (y z : ℕ). y ∷ z ∷ []) k hx ∙ sym (walk-last n t b (nodes n - (c + 1)) w e (eq-eqb (onward n t b w e) b (sym h ∙ d)))))
-        (listed-more room (W .gs ++ (off ∷ [])) o (c + 1) (set out c off) x (omega (arith, walked-lt, W .here .good .few)) (omega (arith, walked-lt, W .here .good .few)) (more l))
+        (all (x ∷ []) (ap₂ (λ (y z : ℕ). y ∷ z ∷ []) k hx
+        ∙ sym (walk-last n t b (nodes n - (c + 1)) w e
+        (eq-eqb (onward n t b w e) b (sym h ∙ d)))))
+        (listed-more room (W .gs ++ (off ∷ [])) o (c + 1) (set out c off) x
+        (omega (arith, walked-lt, W .here .good .few))
+        (omega (arith, walked-lt, W .here .good .few)) (more l))
 
 -- ---- the groups of an end that stays
 module _ (n : ℕ) (t : List ℕ) (a v : ℕ) (o : List ℕ) (l : length o ≡ room) where
   pub stays-one : (x : ℕ) → v < n → x ≡ 2 ^ v → Listed 2 (stayed n t a v) o 1 (set o 0 x)
   unfolding stayed
-  stays-one x tax h = rw (lt-ltb v n tax) (rw (sym h) (listed-more 2 [] o 0 o x (omega arith) (omega arith) (listed-none 2 o)))
+  stays-one x tax h = rw (lt-ltb v n tax)
+      (rw (sym h) (listed-more 2 [] o 0 o x (omega arith) (omega arith) (listed-none 2 o)))
 
-  pub stays-two : (f g x y : ℕ) → n ≤ v → Pair n t a v f g → x ≡ beyond n t v f → y ≡ beyond n t v g → Listed 2 (stayed n t a v) o 2 (set (set o 0 x) 1 y)
+  pub stays-two : (f g x y : ℕ) → n ≤ v → Pair n t a v f g → x ≡ beyond n t v f → y ≡ beyond n t v g
+      → Listed 2 (stayed n t a v) o 2 (set (set o 0 x) 1 y)
   unfolding stayed
   stays-two f g x y inner K hx hy =
       rw (le-ltb v n inner, K .list) (rw (sym hx, sym hy) (
-      listed-more 2 (x ∷ []) o 1 (set o 0 x) y (omega arith) (omega arith) (listed-more 2 [] o 0 o x (omega arith) (omega arith) (listed-none 2 o))))
+      listed-more 2 (x ∷ []) o 1 (set o 0 x) y (omega arith) (omega arith)
+      (listed-more 2 [] o 0 o x (omega arith) (omega arith) (listed-none 2 o))))

@@ -4,11 +4,11 @@ ghost use Prim.Native.Nat.{_<_, _≤_};
 ghost use mathlib.Core.Path.{_≡_};
 ghost use mathlib.Core.Bool.{true, false};
 ghost use Rattle.tree.specs.Tree.{rows};
-ghost use Rattle.sides.specs.Filled.{At, Sides, Sided, Looked};
+ghost use Rattle.sides.specs.Between.{At, Sides, Sided, Looked};
 ghost use Rattle.moves.specs.Moves.{endWith, target};
 ghost use Rattle.moves.specs.Groups as groups_spec;
-ghost use Rattle.moves.specs.Plans.{sideGroups};
-ghost use Rattle.walks.specs.Way.{room, Paced, Asked, Listed};
+ghost use Rattle.moves.specs.Between.{sideGroups};
+ghost use Rattle.walks.specs.Between.{room, Paced, Asked, Listed};
 use moves::Side;
 
 // How many groups a lent list has room for.

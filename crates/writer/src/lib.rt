@@ -2,7 +2,7 @@
 ghost use Prim.Native.Nat.{_≤_};
 ghost use lib.ListN.{length};
 use calls::Refusal;
-use job::Stepped;
+use jobs::Stepped;
 use libc::STDOUT_FILENO;
 
 // Writes the first bytes of what was lent for lines; whether all of them were
@@ -32,10 +32,10 @@ pub fn refused(why: Refusal, place: usize) -> bool {
 // short does not pass for a whole one. There is room for any job, and each step
 // but the last goes on in it, so that no step is one too many.
 pub fn list(input: &[u8]) -> bool {
-    let mut tree = [0u8; job::TABLE];
+    let mut tree = [0u8; jobs::TABLE];
     let mut parts = [0u64; taxa::PARTITIONS];
-    let mut out = [0u8; job::LINES];
-    let mut s = job::start();
+    let mut out = [0u8; jobs::LINES];
+    let mut s = jobs::start();
     loop {
         match job::step(input, s, &mut tree, &mut parts, &mut out) {
             Stepped::Next { state, wrote } => {

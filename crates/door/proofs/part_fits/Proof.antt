@@ -3,7 +3,8 @@ use mathlib.Core.Path.{sym, _∙_}
 use native.Mathlib.Omega.{arith}
 use borrow.Author.Tests.{not-true, not-false}
 use Rattle.tree.specs.Refusals.{partitionChecks}
-use Rattle.door.proofs.PartitionLaws.{counted-range, parts-none, parts-said, part-right, part-6}
+use Rattle.door.proofs.PartitionLaws.{counted-range, parts-none, parts-said, part-right}
+use Rattle.door.proofs.PartitionLaws.{part-6}
 use borrow.Author.Needs.{needs}
 use Rattle.door.proofs.part_fits.Statement.{statement}
 use Rattle.door.proofs.part_fits.Tie as tie

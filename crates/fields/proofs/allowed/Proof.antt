@@ -1,5 +1,6 @@
 -- `fields::allowed` meets its contract. Assumes nothing.
-use Rattle.fields.proofs.FieldLaws.{at-start, at-table, no-parts, a-move, moves-only, no-tag, more-parts}
+use Rattle.fields.proofs.FieldLaws.{at-start, at-table, no-parts, a-move, moves-only, no-tag}
+use Rattle.fields.proofs.FieldLaws.{more-parts}
 use Rattle.fields.proofs.allowed.Statement.{statement}
 use Rattle.fields.proofs.allowed.Tie as tie
 

@@ -69,7 +69,8 @@ loop-again c =
     let a = st .args in (
       omega (arith, at-loop-test .loop-test .taken),
       next-byte (a .job .now) (a .from)
-          (at-loop .loop .i) (at-loop .loop .y) (omega (arith, st .pre, at-loop-test .loop-test .taken))
+          (at-loop .loop .i) (at-loop .loop .y)
+          (omega (arith, st .pre, at-loop-test .loop-test .taken))
           (at-loop .loop .inv .1),
       byte-below (at-loop .loop .i) (at-loop .loop .y) _
           (at-loop .loop .inv .2) (omega (

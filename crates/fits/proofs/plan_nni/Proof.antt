@@ -4,7 +4,7 @@ use Prim.Native.Nat.{ℕ}
 use native.Mathlib.Omega.{arith}
 use borrow.Author.Tests.{not-true, not-false}
 use Rattle.calls.specs.Calls.{gives}
-use Rattle.moves.specs.Plans.{toStay}
+use Rattle.moves.specs.Between.{toStay}
 use Rattle.fits.proofs.FitLaws.{three-rows, says-8, says-9, says-plan, plan-is}
 use borrow.Author.Needs.{needs}
 use Rattle.fits.proofs.plan_nni.Statement.{statement}

@@ -6,9 +6,10 @@ use borrow.Author.Tests.{eq-eqb, ne-eqb, not-true, not-false}
 use mathlib.Core.Bool.{not}
 use Rattle.calls.specs.Calls.{gives}
 use Rattle.tree.specs.Tree.{far}
-use Rattle.moves.specs.Plans.{toStay, toGo}
+use Rattle.moves.specs.Between.{toStay, toGo}
 use Rattle.moves.specs.declared.Side.{Side}
-use Rattle.fits.proofs.FitLaws.{three-rows, two-rows, says-8, says-9, says-10, says-plan, plan-is}
+use Rattle.fits.proofs.FitLaws.{three-rows, two-rows, says-8, says-9, says-10, says-plan}
+use Rattle.fits.proofs.FitLaws.{plan-is}
 use borrow.Author.Needs.{needs}
 use Rattle.fits.proofs.plan_spr.Statement.{statement}
 use Rattle.fits.proofs.plan_spr.Tie as tie

@@ -6,7 +6,7 @@ use native.Mathlib.Omega.{arith}
 use borrow.Author.Tests.{not-true, not-false}
 use Rattle.calls.specs.Calls.{gives}
 use Rattle.moves.specs.Moves.{atBoth}
-use Rattle.moves.specs.Plans.{toGo}
+use Rattle.moves.specs.Between.{toGo}
 use Rattle.fits.proofs.FitLaws.{three-rows, says-8, says-9, says-10, says-plan, plan-is}
 use Rattle.fits.proofs.plan_tbr.Statement.{statement}
 use Rattle.fits.proofs.plan_tbr.Tie as tie

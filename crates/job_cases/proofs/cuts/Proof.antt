@@ -1,16 +1,15 @@
 -- `job_cases::cuts` meets its contract. Assumes nothing.
 use Prim.Native.Nat.{_≤_, _-_}
+use lib.ListN.{length}
 use borrow.Author.Needs.{needs}
 use Rattle.job_cases.proofs.cuts.Statement.{statement}
 use Rattle.job_cases.proofs.cuts.Tie as tie
 
 abbrev Inv-loop : tie.InvT-loop
-Inv-loop k₀ t2 t3 t4 t5 k =
-    k ≤ 54
+Inv-loop l job k₀ t4 t5 k = k ≤ length job
 
 abbrev μ-loop : tie.MeasureT-loop
-μ-loop k₀ t2 t3 t4 t5 k =
-    54 - k
+μ-loop l job k₀ t4 t5 k = length job - k
 
 loop-holds : tie.Need-loop-holds Inv-loop μ-loop
 loop-holds c = search needs
@@ -30,14 +29,11 @@ slice-aggregate-put-2 c = search needs
 put-requires-2 : tie.Need-put-requires-2 Inv-loop μ-loop
 put-requires-2 c κs = search needs
 
-slice-aggregate-run : tie.Need-slice-aggregate-run Inv-loop μ-loop
-slice-aggregate-run c = search needs
+first-requires : tie.Need-first-requires Inv-loop μ-loop
+first-requires c κs = search needs
 
-slice-aggregate-run-2 : tie.Need-slice-aggregate-run-2 Inv-loop μ-loop
-slice-aggregate-run-2 c = search needs
-
-run-requires : tie.Need-run-requires Inv-loop μ-loop
-run-requires c κs = search needs
+listed-requires : tie.Need-listed-requires Inv-loop μ-loop
+listed-requires c κs = search needs
 
 add-k : tie.Need-add-k Inv-loop μ-loop
 add-k c = search needs
@@ -63,9 +59,8 @@ cuts-spec =
     say-requires
     slice-aggregate-put-2
     put-requires-2
-    slice-aggregate-run
-    slice-aggregate-run-2
-    run-requires
+    first-requires
+    listed-requires
     add-k
     loop-less
     loop-again

@@ -2,7 +2,8 @@
 use mathlib.Core.Path.{_∙_, sym}
 use native.Mathlib.Omega.{arith}
 use borrow.Author.Tests.{not-true, not-false}
-use Rattle.labels.proofs.LabelLaws.{missed-byte, missed-digit, found-zero, found-one, found-two, missed-single, missed-double}
+use Rattle.labels.proofs.LabelLaws.{missed-byte, missed-digit, found-zero, found-one}
+use Rattle.labels.proofs.LabelLaws.{found-two, missed-single, missed-double}
 use borrow.Author.Needs.{needs}
 use Rattle.labels.proofs.read.Statement.{statement}
 use Rattle.labels.proofs.read.Tie as tie

@@ -6,12 +6,12 @@ use lib.ListN.{length-replicate}
 use Rattle.taxa.specs.Most.{most, mostPartitions}
 use Rattle.tree.specs.Tree.{rows}
 use Rattle.tree.specs.Refusals.{partitionsChecks}
-use Rattle.moves.specs.Plans.{planMoved}
+use Rattle.moves.specs.Between.{planMoved}
 use Rattle.door.proofs.PartitionLaws.{few-of, each-of}
 use Rattle.door.proofs.DoorLaws.{door-opens, opened-ready}
 use Rattle.judge.proofs.GroupLaws.{ready-rewrites}
-use Rattle.listing.proofs.SavedLaws.{saved-wide}
-use Rattle.listing.proofs.LineLaws.{found-are, found-length, found-within, found-same}
+use Rattle.saved.proofs.SavedLaws.{saved-wide}
+use Rattle.listing.proofs.FoundLaws.{found-are, found-length, found-within, found-same}
 use Rattle.listing.proofs.ListsLaws.{lists-refused, lists-put}
 use borrow.Author.Needs.{needs}
 use Rattle.listing.proofs.list_move.Statement.{statement}
@@ -77,7 +77,8 @@ array-share-prefix-ds : tie.Need-array-share-prefix-ds
 array-share-prefix-ds c =
     let at-judge-groups = c .before in
     let at-entry2 = at-judge-groups .before .before .before .before .before .before in
-    let st = at-entry2 .before .before .before .before .before .before .before .before .before .before in
+    let st = at-entry2 .before .before .before .before .before .before .before .before .before
+    .before in
     let a = st .args in
     let u = planMoved (a .n) (a .t .now) (at-entry2 .entry2 .given .0 .0) in
     found-within (a .n) (a .t .now) u (a .ys .now) (at-judge-groups .judge-groups .ensures)
@@ -86,7 +87,8 @@ slice-aggregate-found : tie.Need-slice-aggregate-found
 slice-aggregate-found c =
     let at-judge-groups = c .before .before in
     let at-entry2 = at-judge-groups .before .before .before .before .before .before in
-    let st = at-entry2 .before .before .before .before .before .before .before .before .before .before in
+    let st = at-entry2 .before .before .before .before .before .before .before .before .before
+    .before in
     let a = st .args in
     let u = planMoved (a .n) (a .t .now) (at-entry2 .entry2 .given .0 .0) in
     sym (found-length (a .n) (a .t .now) u (a .ys .now) (at-judge-groups .judge-groups .ensures))
@@ -95,7 +97,8 @@ saved-of-requires : tie.Need-saved-of-requires
 saved-of-requires c κs =
     let at-judge-groups = c .before .before in
     let at-entry2 = at-judge-groups .before .before .before .before .before .before in
-    let st = at-entry2 .before .before .before .before .before .before .before .before .before .before in
+    let st = at-entry2 .before .before .before .before .before .before .before .before .before
+    .before in
     let a = st .args in
     let u = planMoved (a .n) (a .t .now) (at-entry2 .entry2 .given .0 .0) in
     sym (found-length (a .n) (a .t .now) u (a .ys .now) (at-judge-groups .judge-groups .ensures))
@@ -124,7 +127,8 @@ put-where-room-requires c κs =
 slice-aggregate-move-where : tie.Need-slice-aggregate-move-where
 slice-aggregate-move-where c =
     let at-entry2 =
-    c .before .before .before .before .before .before .before .before .before .before .before .before .before .before .before in
+    c .before .before .before .before .before .before .before .before .before .before .before
+    .before .before .before .before in
     let at-enter = at-entry2 .before .before in
     let at-parts-fit = at-enter .before .before .before .before in
     let st = at-parts-fit .before .before .before .before in
@@ -136,7 +140,8 @@ slice-aggregate-move-where c =
 move-where-requires : tie.Need-move-where-requires
 move-where-requires c κs =
     let at-entry2 =
-    c .before .before .before .before .before .before .before .before .before .before .before .before .before .before .before in
+    c .before .before .before .before .before .before .before .before .before .before .before
+    .before .before .before .before in
     let at-enter = at-entry2 .before .before in
     let at-parts-fit = at-enter .before .before .before .before in
     let st = at-parts-fit .before .before .before .before in

@@ -6,7 +6,7 @@ use lib.Dec.{leb}
 use lib.ListN.{length}
 use borrow.Author.Tests.{not-true, not-false, leb-true}
 use Rattle.text.proofs.Placing.{back}
-use Rattle.listing.specs.Listing.{linesWith}
+use Rattle.move_lines.specs.MoveLines.{linesWith}
 use Rattle.listing.proofs.ListsLaws.{puts-11, puts-done}
 use borrow.Author.Needs.{needs}
 use Rattle.listing.proofs.put_where_room.Statement.{statement}
@@ -112,7 +112,7 @@ returns-2 c =
     let h = leb-true (a .place + length ls) room fits in
     puts-done ls (a .place) (a .out .now) fits
     (ap (λ (z : ℕ). a .place + z) (at-lines-width .lines-width .ensures))
-    (back (a .out .now) (a .place) ls h (at-put-lines .put-lines .ensures) .1)
+    (back (a .out .now) (a .place) ls h (at-put-lines .put-lines .ensures) .memory)
 
 pub put-where-room-spec : {M : Type 1} → statement M
 put-where-room-spec =

@@ -14,7 +14,8 @@ use Rattle.lists.proofs.count_lacking.Statement.{statement}
 use Rattle.lists.proofs.count_lacking.Tie as tie
 
 abbrev Inv-loop : tie.InvT-loop
-Inv-loop a b both₀ i₀ j₀ both i j = (i ≤ length a) × (j ≤ length b) × (both ≤ i) × (lacks a b + both ≡ i + lacks (drop i a) (drop j b))
+Inv-loop a b both₀ i₀ j₀ both i j = (i ≤ length a) × (j ≤ length b) × (both ≤ i)
+    × (lacks a b + both ≡ i + lacks (drop i a) (drop j b))
 
 abbrev μ-loop : tie.MeasureT-loop
 μ-loop a b both₀ i₀ j₀ both i j = (length a - i) + (length b - j)

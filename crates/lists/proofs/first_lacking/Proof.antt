@@ -5,7 +5,8 @@ use Prim.Native.Nat.{_≤_, _-_}
 use lib.ListN.{getD, length, drop}
 use borrow.Author.Needs.{needs}
 use Rattle.tree.specs.Lists.{mem, firstLack}
-use Rattle.lists.proofs.Lacking.{mem-end, mem-here, mem-later, first-end, first-here, first-later}
+use Rattle.lists.proofs.Lacking.{mem-end, mem-here, mem-later, first-end, first-here}
+use Rattle.lists.proofs.Lacking.{first-later}
 use Rattle.lists.proofs.first_lacking.Statement.{statement}
 use Rattle.lists.proofs.first_lacking.Tie as tie
 

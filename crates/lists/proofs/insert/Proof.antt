@@ -16,8 +16,14 @@ use Rattle.lists.proofs.open_gap.Reads as open-gap-reads
 use Rattle.lists.proofs.place.Reads as place-reads
 
 -- where a place is opened, x does not stand there
-opens : (c : lts.Joined1 (place-reads.Asked, place-reads.Learnt, open-gap-reads.Asked, open-gap-reads.Learnt) reads.Pre reads.Post)
-    → let st = c .before .before .before .before in Opened (st .args .x) (st .args .out .now) (st .args .len) (c .before .place .result)
+opens : (c : lts.Joined1 (
+  place-reads.Asked,
+  place-reads.Learnt,
+  open-gap-reads.Asked,
+  open-gap-reads.Learnt,
+) reads.Pre reads.Post)
+    → let st = c .before .before .before .before in
+    Opened (st .args .x) (st .args .out .now) (st .args .len) (c .before .place .result)
 opens c =
     let st = c .before .before .before .before in
     opened (st .args .x) (st .args .out .now) (st .args .len) (st .pre .0)

@@ -5,13 +5,14 @@ use Prim.Native.Nat.{_≤_}
 use native.Mathlib.Omega.{arith}
 use lib.ListN.{length, length-set}
 use borrow.Author.Needs.{needs}
-use Rattle.lists.specs.Places.{gapped}
+use Rattle.lists.specs.Between.{gapped}
 use Rattle.lists.proofs.Insertion.{gap-none, gap-down}
 use Rattle.lists.proofs.open_gap.Statement.{statement}
 use Rattle.lists.proofs.open_gap.Tie as tie
 
 abbrev Inv-loop : tie.InvT-loop
-Inv-loop out₀ i len k₀ out k = (i ≤ k) × (k ≤ len) × (length out ≡ length out₀) × (out ≡ gapped out₀ k len)
+Inv-loop out₀ i len k₀ out k =
+    (i ≤ k) × (k ≤ len) × (length out ≡ length out₀) × (out ≡ gapped out₀ k len)
 
 abbrev μ-loop : tie.MeasureT-loop
 μ-loop out₀ i len k₀ out k = k

@@ -5,7 +5,7 @@ use Prim.Native.Nat.{_≤_, _-_, _+_}
 use native.Mathlib.Omega.{arith}
 use lib.ListN.{take, drop}
 use borrow.Author.Needs.{needs}
-use Rattle.lists.specs.Places.{lead}
+use Rattle.lists.specs.Between.{lead}
 use Rattle.lists.proofs.Insertion.{lead-end, lead-stop, lead-more}
 use Rattle.lists.proofs.place.Statement.{statement}
 use Rattle.lists.proofs.place.Tie as tie

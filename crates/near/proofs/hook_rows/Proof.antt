@@ -8,14 +8,15 @@ use native.Mathlib.Omega.{arith}
 use lib.ListN.{length, length-replicate}
 use Rattle.taxa.specs.Most.{most}
 use Rattle.tree.specs.Tree.{lo, rows, nodes}
-use Rattle.near.specs.Near.{free, hooked, hookedTo}
+use Rattle.near.specs.Between.{free, hooked, hookedTo}
 use Rattle.near.proofs.NearLaws.{Upto, upto-none, upto-more, near-of, length-hooked}
 use borrow.Author.Needs.{needs}
 use Rattle.near.proofs.hook_rows.Statement.{statement}
 use Rattle.near.proofs.hook_rows.Tie as tie
 
 abbrev Inv-loop : tie.InvT-loop
-Inv-loop n t a₀ m i₀ a i = (i ≤ rows n) × (length a ≡ 3 * nodes most) × Upto t a (nodes n) i × (a ≡ hookedTo t i)
+Inv-loop n t a₀ m i₀ a i =
+    (i ≤ rows n) × (length a ≡ 3 * nodes most) × Upto t a (nodes n) i × (a ≡ hookedTo t i)
 
 abbrev μ-loop : tie.MeasureT-loop
 μ-loop n t a₀ m i₀ a i = rows n - i

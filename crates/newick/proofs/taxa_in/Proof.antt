@@ -1,5 +1,6 @@
 -- `newick::taxa_in` meets its contract. Assumes nothing.
-use Rattle.newick.proofs.LineLaws.{no-digit, zero-first, no-second, other-length, one-line, two-line}
+use Rattle.newick.proofs.LineLaws.{no-digit, zero-first, no-second, other-length, one-line}
+use Rattle.newick.proofs.LineLaws.{two-line}
 use native.Mathlib.Omega.{arith}
 use borrow.Author.Needs.{needs}
 use Rattle.newick.proofs.taxa_in.Statement.{statement}

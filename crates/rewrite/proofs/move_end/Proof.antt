@@ -1,7 +1,7 @@
 -- `rewrite::move_end` meets its contract. Assumes nothing.
 use mathlib.Core.Path.{sym, _∙_}
 use native.Mathlib.Omega.{arith}
-use Rattle.moves.proofs.SprMove.{moveEnd-eq}
+use Rattle.moves.proofs.Spr.Rows.{moveEnd-eq}
 use Rattle.rewrite.proofs.Fitting.{p-lt, two-rows}
 use borrow.Author.Needs.{needs}
 use Rattle.rewrite.proofs.move_end.Statement.{statement}

@@ -1,6 +1,6 @@
 -- `rules::above_two` meets its contract. Assumes nothing.
 use native.Mathlib.Omega.{arith}
-use Rattle.moves.proofs.GroupLists.{met-le}
+use Rattle.moves.proofs.Ways.GroupLists.{met-le}
 use borrow.Author.Needs.{needs}
 use Rattle.rules.proofs.above_two.Statement.{statement}
 use Rattle.rules.proofs.above_two.Tie as tie

@@ -5,7 +5,7 @@ use Prim.Native.Nat.{_+_, _≤_, _-_}
 use native.Mathlib.Omega.{arith}
 use lib.ListN.{length, drop}
 use Rattle.moves.specs.Groups.{met}
-use Rattle.moves.proofs.GroupLists.{met-le}
+use Rattle.moves.proofs.Ways.GroupLists.{met-le}
 use Rattle.rules.proofs.Judging.{met-rest, met-end}
 use borrow.Author.Needs.{needs}
 use Rattle.rules.proofs.count_met.Statement.{statement}

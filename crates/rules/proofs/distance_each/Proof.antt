@@ -5,15 +5,16 @@ use native.Mathlib.Omega.{arith}
 use lib.Dec.{eqb}
 use lib.ListN.{length, take}
 use Rattle.taxa.proofs.Sizes.{tally-one}
-use Rattle.moves.specs.Plans.{byGroups}
-use Rattle.rules.specs.Each.{Judges}
+use Rattle.moves.specs.Between.{byGroups}
+use Rattle.rules.specs.Between.{Judges}
 use Rattle.rules.proofs.Judging.{judge-none, judge-few, judge-end, judge-length, judge-next}
 use borrow.Author.Needs.{needs}
 use Rattle.rules.proofs.distance_each.Statement.{statement}
 use Rattle.rules.proofs.distance_each.Tie as tie
 
 abbrev Inv-loop : tie.InvT-loop
-Inv-loop nni gs hs ys out₀ r₀ i₀ out r i = (i ≤ length ys) × Judges (byGroups nni gs hs) (take i ys) out₀ r out
+Inv-loop nni gs hs ys out₀ r₀ i₀ out r i =
+    (i ≤ length ys) × Judges (byGroups nni gs hs) (take i ys) out₀ r out
 
 abbrev μ-loop : tie.MeasureT-loop
 μ-loop nni gs hs ys out₀ r₀ i₀ out r i = length ys - i
@@ -38,7 +39,11 @@ slice-write-out c =
     let at-loop = c .before .before .before in
     let st = c .before .before .before .before .before .before .before .before in
     let at = at-loop .loop in
-    omega (arith, judge-length (st .args .ys .now) (at .i) (at .inv .0) (at .inv .1) (st .pre .1))
+    omega (
+      arith,
+      judge-length (byGroups (st .args .nni) (st .args .gs .now) (st .args .hs .now))
+          (st .args .ys .now) (at .i) (at .inv .0) (at .inv .1) (st .pre .1),
+    )
 
 cast-r : tie.Need-cast-r Inv-loop μ-loop
 cast-r c = search needs
@@ -50,7 +55,8 @@ add-r c =
     let at = at-loop .loop in
     omega (
       arith,
-      judge-few (st .args .ys .now) (at .i) (at .inv .0) (at .inv .1),
+      judge-few (byGroups (st .args .nni) (st .args .gs .now) (st .args .hs .now))
+          (st .args .ys .now) (at .i) (at .inv .0) (at .inv .1),
       tally-one
           (eqb (c .distance .result) 0),
     )
@@ -68,7 +74,8 @@ loop-again c =
     let st = c .before .before .before .before .before .before .before .before in
     let at = at-loop .loop in (
       search needs,
-      judge-next (st .args .ys .now) (at .i) (at .inv .0) (at .inv .1) (st .pre .1)
+      judge-next (byGroups (st .args .nni) (st .args .gs .now) (st .args .hs .now))
+          (st .args .ys .now) (at .i) (at .inv .0) (at .inv .1) (st .pre .1)
           (at-loop-test .loop-test .taken) (c .distance .result) (c .distance .ensures),
     )
 
@@ -76,13 +83,15 @@ same-length : tie.Need-same-length Inv-loop μ-loop
 same-length c =
     let st = c .before .before .before .before .before .before in
     let at = c .before .loop in
-    judge-length (st .args .ys .now) (at .i) (at .inv .0) (at .inv .1) (st .pre .1)
+    judge-length (byGroups (st .args .nni) (st .args .gs .now) (st .args .hs .now))
+    (st .args .ys .now) (at .i) (at .inv .0) (at .inv .1) (st .pre .1)
 
 returns : tie.Need-returns Inv-loop μ-loop
 returns c =
     let st = c .before .before .before .before .before .before in
     let at = c .before .loop in
-    judge-end (st .args .ys .now) (at .i) (at .inv .0) (at .inv .1) (search needs)
+    judge-end (byGroups (st .args .nni) (st .args .gs .now) (st .args .hs .now)) (st .args .ys .now)
+    (at .i) (at .inv .0) (at .inv .1) (search needs)
 
 pub distance-each-spec : {M : Type 1} → statement M
 distance-each-spec =

@@ -6,7 +6,7 @@ use lib.Dec.{eqb}
 use borrow.Author.Tests.{eq-eqb, ne-eqb, not-true, not-false}
 use Rattle.taxa.proofs.Bools.{or-right}
 use Rattle.moves.specs.Groups as groups
-use Rattle.moves.proofs.GroupLists.{met-le}
+use Rattle.moves.proofs.Ways.GroupLists.{met-le}
 use borrow.Author.Needs.{needs}
 use Rattle.rules.proofs.rule.Statement.{statement}
 use Rattle.rules.proofs.rule.Tie as tie

@@ -2,7 +2,8 @@
 use mathlib.Core.Path.{refl}
 use native.Mathlib.Omega.{arith}
 use Rattle.sides.proofs.MarkLaws.{left, left-spread, mark-yes, mark-not}
-use Rattle.sides.proofs.WalkLaws.{v-lt, left-falls, notes, walked-marked, walked-taxon, first-room, second-room}
+use Rattle.sides.proofs.WalkLaws.{v-lt, left-falls, notes, walked-marked, walked-taxon}
+use Rattle.sides.proofs.WalkLaws.{first-room, second-room}
 use Rattle.sides.proofs.WalkLaws.{walks-first, walks-second, walked-inner}
 use Prim.Native.Nat.{ℕ, _<_}
 use borrow.Fn.Kinds.{In}
@@ -29,9 +30,21 @@ walk-below t = and 4 walk-kinds.ps (falls 4 walk-kinds.ps _<_ μ-walk t) walk.Pr
 
 -- what the calls ask and give
 abbrev claims : ℕ → walk-lts.Claims
-claims t = (only-reads.Asked, only-reads.Learnt, note-reads.Asked, note-reads.Learnt, others-reads.Asked, others-reads.Learnt, far-reads.Asked, far-reads.Learnt, walk-below t, walk.Post)
+claims t = (
+  only-reads.Asked,
+  only-reads.Learnt,
+  note-reads.Asked,
+  note-reads.Learnt,
+  others-reads.Asked,
+  others-reads.Learnt,
+  far-reads.Asked,
+  far-reads.Learnt,
+  walk-below t,
+  walk.Post,
+)
 
-walk-element-copy-out-if1 : (t : ℕ) → walk-lts.Need-element-copy-out-if1 (claims t) (walk-at t) walk.Post
+walk-element-copy-out-if1 : (t : ℕ)
+    → walk-lts.Need-element-copy-out-if1 (claims t) (walk-at t) walk.Post
 walk-element-copy-out-if1 t c =
     let W = c .before .pre .1 in
     omega (arith, v-lt W, W .rowed .ordered .few)
@@ -41,7 +54,8 @@ walk-returns t c =
     let st = c .before .before .before in
     walked-marked (st .pre .1) (mark-yes (st .args .marks .now) (st .args .v) (c .if1 .taken))
 
-walk-element-write-marks : (t : ℕ) → walk-lts.Need-element-write-marks (claims t) (walk-at t) walk.Post
+walk-element-write-marks : (t : ℕ)
+    → walk-lts.Need-element-write-marks (claims t) (walk-at t) walk.Post
 walk-element-write-marks t c =
     let st = c .before .before .before in
     let W = st .pre .1 in

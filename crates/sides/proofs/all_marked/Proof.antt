@@ -6,7 +6,7 @@ use lib.Dec.{eqb}
 use lib.ListN.{getD}
 use Rattle.tree.specs.Tree.{nodes, every}
 use Rattle.table.proofs.Gathers.{byte-none, gather-more}
-use Rattle.sides.specs.Marks.{mark}
+use Rattle.sides.specs.Between.{mark}
 use borrow.Author.Needs.{needs}
 use Rattle.sides.proofs.all_marked.Statement.{statement}
 use Rattle.sides.proofs.all_marked.Tie as tie

@@ -43,7 +43,8 @@ returns c =
     let at-within = at-if1 .before in
     let at-enum-told = at-within .before in
     let at-look = at-enum-told .before .before in
-    let s = c .before .before .before .before .before .before .before .before .before .before .before in
+    let s = c .before .before .before .before .before .before .before .before .before .before
+    .before in
     let w = found-looked (at-look .look .ensures) (at-enum-told .enum-told .given .1) in
     compares-both (s .args .n) (s .args .t .now) (s .args .u .now) (s .args .y) (s .pre .good)
     (w .good) (sym (at-within .within .ensures) ∙ at-if1 .if1 .taken) (c .compare-trees .result)

@@ -1,11 +1,12 @@
 -- `splits::compare_trees` meets its contract. Assumes nothing.
-use Rattle.splits.proofs.ListLaws.{compared-lists, listed-prefix, splits-few, split-list}
-use mathlib.Core.Path.{sym, ap, _∙_}
+use Rattle.splits.proofs.ListLaws.{compared-lists, splits-few, split-list}
+use mathlib.Core.Path.{ap, _∙_}
 use Prim.Native.Nat.{ℕ}
 use native.Mathlib.Omega.{arith}
-use lib.ListN.{length, length-replicate}
+use lib.ListN.{length-replicate}
 use Rattle.taxa.specs.Most.{most}
 use Rattle.tree.specs.Tree.{rows}
+use Rattle.calls.proofs.StartLaws.{wrote-take, wrote-part}
 use Rattle.calls.specs.Calls.{Said, gives}
 use borrow.Author.Needs.{needs}
 use Rattle.splits.proofs.compare_trees.Statement.{statement}
@@ -58,8 +59,7 @@ array-share-prefix-first c =
 slice-aggregate-compare-lists : tie.Need-slice-aggregate-compare-lists
 slice-aggregate-compare-lists c =
     let at-tree-splits = c .before .before .before .before .before in
-    sym (ap length (listed-prefix _ _ _ _ (at-tree-splits .tree-splits .ensures)) ∙ sym
-    (at-tree-splits .tree-splits .ensures .count))
+    wrote-part (at-tree-splits .tree-splits .ensures)
 
 array-share-prefix-second : tie.Need-array-share-prefix-second
 array-share-prefix-second c =
@@ -75,16 +75,15 @@ array-share-prefix-second c =
 slice-aggregate-compare-lists-2 : tie.Need-slice-aggregate-compare-lists-2
 slice-aggregate-compare-lists-2 c =
     let at-tree-splits2 = c .before .before .before in
-    sym (ap length (listed-prefix _ _ _ _ (at-tree-splits2 .tree-splits2 .ensures)) ∙ sym
-    (at-tree-splits2 .tree-splits2 .ensures .count))
+    wrote-part (at-tree-splits2 .tree-splits2 .ensures)
 
 compare-lists-requires : tie.Need-compare-lists-requires
 compare-lists-requires c κs =
     let at-tree-splits2 = c .before .before .before in
     let at-tree-splits = at-tree-splits2 .before .before .before in
     let s = c .before .before .before .before .before .before .before .before .before .before in
-    let p = listed-prefix _ _ _ _ (at-tree-splits .tree-splits .ensures) in
-    let q = listed-prefix _ _ _ _ (at-tree-splits2 .tree-splits2 .ensures) in (
+    let p = wrote-take (at-tree-splits .tree-splits .ensures) in
+    let q = wrote-take (at-tree-splits2 .tree-splits2 .ensures) in (
       split-list (s .args .n) (s .args .t .now) (s .args .y) (s .pre .0 .good .few) p,
       split-list (s .args .n) (s .args .u .now) (s .args .y) (s .pre .0 .good .few) q,
     )
@@ -93,12 +92,12 @@ returns : tie.Need-returns
 returns c =
     let at-tree-splits2 = c .before .before .before .before in
     let at-tree-splits = at-tree-splits2 .before .before .before in
-    let s = c .before .before .before .before .before .before .before .before .before .before .before in
+    let s = c .before .before .before .before .before .before .before .before .before .before
+    .before in
     let pair : ℕ × ℕ → Said (ℕ × ℕ) = λ v. gives v in
     c .compare-lists .ensures ∙ ap pair (compared-lists (s .args .n) (s .args .t .now)
-    (s .args .u .now) (s .args .y) _ _ (listed-prefix _ _ _ _
-    (at-tree-splits .tree-splits .ensures)) (listed-prefix _ _ _ _
-    (at-tree-splits2 .tree-splits2 .ensures)))
+    (s .args .u .now) (s .args .y) _ _ (wrote-take (at-tree-splits .tree-splits .ensures))
+    (wrote-take (at-tree-splits2 .tree-splits2 .ensures)))
 
 pub compare-trees-spec : {M : Type 1} → statement M
 compare-trees-spec =

@@ -85,7 +85,8 @@ returns-3 c =
     let at-size = at-members .before in
     let at-if1 = at-size .before in
     let at-within = at-if1 .before in
-    let s = c .before .before .before .before .before .before .before .before .before .before .before in
+    let s = c .before .before .before .before .before .before .before .before .before .before
+    .before in
     let b = sym (at-within .within .ensures) ∙ not-false (at-within .within .result)
     (at-if1 .if1 .left) in
     let e = needed (s .args .n) (s .args .t .now) (s .args .y) (s .pre .good .valid)

@@ -8,7 +8,7 @@ use lib.ListN.{getD}
 use borrow.Author.Tests.{lt-ltb, le-ltb}
 use Rattle.tree.specs.Tree.{every}
 use Rattle.tree.proofs.RowCounts.{all-every}
-use Rattle.table.specs.Rowed.{hasFrom}
+use Rattle.table.specs.Between.{hasFrom}
 use Rattle.table.proofs.Gathers.{byte-none, gather-more}
 use borrow.Author.Needs.{needs}
 use Rattle.table.proofs.all_at.Statement.{statement}
@@ -28,7 +28,8 @@ loop-holds c =
       search needs,
       search needs,
       sym (all-every (hasFrom (a .d .now) (a .from) (a .k)) (a .from)
-          (λ r l. ap (λ (b : Bool). b || eqb (getD (a .d .now) r 0) (a .k)) (lt-ltb r (a .from) l))),
+          (λ r l. ap (λ (b : Bool). b || eqb (getD (a .d .now) r 0) (a .k))
+          (lt-ltb r (a .from) l))),
     )
 
 element-copy-out-bad : tie.Need-element-copy-out-bad Inv-loop μ-loop

@@ -4,7 +4,7 @@ use Prim.Native.Nat.{ℕ, _≤_, _-_, _+_}
 use lib.ListN.{getD, set}
 use native.Mathlib.Omega.{arith}
 use Rattle.tree.specs.Tree.{rows}
-use Rattle.table.specs.Rowed.{Counted}
+use Rattle.table.specs.Between.{Counted}
 use Rattle.table.proofs.Tallies.{counted-none, counted-more, lo-fits, hi-fits}
 use borrow.Author.Needs.{needs}
 use Rattle.table.proofs.degrees.Statement.{statement}
@@ -98,8 +98,10 @@ add-d-2 c =
         ap (λ (k : ℕ). getD (set (at-loop .loop .d) (at-lo .lo .result)
             (getD (at-loop .loop .d) (at-lo .lo .result) 0 + 1)) k 0) (c .hi .ensures),
         hi-fits (a .n)
-            (a .t .now) (at-loop .loop .d) (at-loop .loop .i) (st .pre) (at-loop-test .loop-test .taken)
-            (at-loop .loop .inv .1) (at-lo .lo .result) (getD (at-loop .loop .d) (at-lo .lo .result) 0 + 1)
+            (a .t .now) (at-loop .loop .d) (at-loop .loop .i) (st .pre)
+            (at-loop-test .loop-test .taken)
+            (at-loop .loop .inv .1) (at-lo .lo .result)
+            (getD (at-loop .loop .d) (at-lo .lo .result) 0 + 1)
             (at-lo .lo .ensures) refl,
         st .pre .few,
       );
@@ -128,7 +130,8 @@ loop-again c =
     let a = st .args in (
       omega arith,
       counted-more (a .n) (a .t .now) (at-loop .loop .d) (at-loop .loop .i) (st .pre)
-          (at-loop-test .loop-test .taken) (at-loop .loop .inv .1) (at-lo .lo .result) (c .hi .result) _ _
+          (at-loop-test .loop-test .taken) (at-loop .loop .inv .1) (at-lo .lo .result)
+          (c .hi .result) _ _
           (at-lo .lo .ensures) (c .hi .ensures) refl refl,
     )
 

@@ -1,9 +1,8 @@
 -- `text::width` meets its contract. Assumes nothing.
 use native.Mathlib.Omega.{arith}
 use mathlib.Core.Path.{ap, _∙_}
-use Prim.Native.Nat.{_+_, _/_}
+use Prim.Native.Nat.{_+_, _/_, ℕ, _<_}
 use Rattle.text.proofs.Widths.{decimal-one, decimal-more, decimal-few}
-use Prim.Native.Nat.{ℕ, _<_}
 use borrow.Fn.Kinds.{In}
 use borrow.Fn.PlainCycle.{Measures, is, falls, and}
 use Rattle.text.proofs.width.Reads as width
@@ -26,11 +25,13 @@ width-returns : (t : ℕ) → width-lts.Need-returns (width-below t, width.Post)
 width-returns t c =
     decimal-one (c .before .args .n) (c .if1 .taken)
 
-width-width-requires : (t : ℕ) → width-lts.Need-width-requires (width-below t, width.Post) (width-at t) width.Post
+width-width-requires : (t : ℕ)
+    → width-lts.Need-width-requires (width-below t, width.Post) (width-at t) width.Post
 width-width-requires t c κs =
     (omega (arith, c .if1 .left, c .before .pre .0), tt)
 
-width-add-result : (t : ℕ) → width-lts.Need-add-result (width-below t, width.Post) (width-at t) width.Post
+width-add-result : (t : ℕ)
+    → width-lts.Need-add-result (width-below t, width.Post) (width-at t) width.Post
 width-add-result t c =
     let st = c .before .before in
     record {
@@ -42,7 +43,8 @@ width-add-result t c =
       );
     }
 
-width-returns-2 : (t : ℕ) → width-lts.Need-returns-2 (width-below t, width.Post) (width-at t) width.Post
+width-returns-2 : (t : ℕ)
+    → width-lts.Need-returns-2 (width-below t, width.Post) (width-at t) width.Post
 width-returns-2 t c =
     let at-if1 = c .before in
     let st = at-if1 .before in

@@ -25,7 +25,8 @@ slice-aggregate-then-word-2 c = search needs
 
 then-word-requires-2 : tie.Need-then-word-requires-2
 then-word-requires-2 c κs =
-    let st = c .before .before .before .before .before .before .before .before .before .before .before .before in
+    let st = c .before .before .before .before .before .before .before .before .before .before
+    .before .before in
     omega (arith, end-bytes (st .args .m))
 
 same-length : tie.Need-same-length

@@ -27,13 +27,15 @@ slice-aggregate-then-word-2 c = search needs
 
 then-word-requires-2 : tie.Need-then-word-requires-2
 then-word-requires-2 c κs =
-    let st = c .before .before .before .before .before .before .before .before .before .before .before .before in
+    let st = c .before .before .before .before .before .before .before .before .before .before
+    .before .before in
     let a = st .args in
     omega (arith, refused-bytes (a .r) (a .p))
 
 then-number-requires-2 : tie.Need-then-number-requires-2
 then-number-requires-2 c κs =
-    let st = c .before .before .before .before .before .before .before .before .before .before .before .before .before .before .before .before in
+    let st = c .before .before .before .before .before .before .before .before .before .before
+    .before .before .before .before .before .before in
     let a = st .args in
     omega (arith, refused-bytes (a .r) (a .p))
 
@@ -42,7 +44,8 @@ slice-aggregate-then-word-3 c = search needs
 
 then-word-requires-3 : tie.Need-then-word-requires-3
 then-word-requires-3 c κs =
-    let st = c .before .before .before .before .before .before .before .before .before .before .before .before .before .before .before .before .before .before .before .before .before in
+    let st = c .before .before .before .before .before .before .before .before .before .before
+    .before .before .before .before .before .before .before .before .before .before .before in
     let a = st .args in
     omega (arith, refused-bytes (a .r) (a .p))
 

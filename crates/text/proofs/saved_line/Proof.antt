@@ -24,7 +24,8 @@ then-word-requires c κs =
 
 then-number-requires : tie.Need-then-number-requires
 then-number-requires c κs =
-    let st = c .before .before .before .before .before .before .before .before .before .before .before in
+    let st = c .before .before .before .before .before .before .before .before .before .before
+    .before in
     let a = st .args in
     omega (arith, saved-bytes (a .m) (a .s) (a .same) (a .k))
 
@@ -33,13 +34,15 @@ slice-aggregate-then-word-2 c = search needs
 
 then-word-requires-2 : tie.Need-then-word-requires-2
 then-word-requires-2 c κs =
-    let st = c .before .before .before .before .before .before .before .before .before .before .before .before .before .before .before .before in
+    let st = c .before .before .before .before .before .before .before .before .before .before
+    .before .before .before .before .before .before in
     let a = st .args in
     omega (arith, saved-bytes (a .m) (a .s) (a .same) (a .k))
 
 then-class-requires : tie.Need-then-class-requires
 then-class-requires c κs =
-    let st = c .before .before .before .before .before .before .before .before .before .before .before .before .before .before .before .before .before .before .before .before in
+    let st = c .before .before .before .before .before .before .before .before .before .before
+    .before .before .before .before .before .before .before .before .before .before in
     let a = st .args in
     (st .pre .0, st .pre .1, omega (arith, saved-bytes (a .m) (a .s) (a .same) (a .k)))
 
@@ -48,7 +51,9 @@ slice-aggregate-then-word-3 c = search needs
 
 then-word-requires-3 : tie.Need-then-word-requires-3
 then-word-requires-3 c κs =
-    let st = c .before .before .before .before .before .before .before .before .before .before .before .before .before .before .before .before .before .before .before .before .before .before .before .before .before in
+    let st = c .before .before .before .before .before .before .before .before .before .before
+    .before .before .before .before .before .before .before .before .before .before .before
+    .before .before .before .before in
     let a = st .args in
     omega (arith, saved-bytes (a .m) (a .s) (a .same) (a .k))
 

@@ -24,7 +24,8 @@ then-word-requires c κs =
 
 then-number-requires : tie.Need-then-number-requires
 then-number-requires c κs =
-    let st = c .before .before .before .before .before .before .before .before .before .before .before in
+    let st = c .before .before .before .before .before .before .before .before .before .before
+    .before in
     let a = st .args in
     omega (arith, verdict-least (a .m) (a .p) (a .d))
 
@@ -34,7 +35,8 @@ slice-aggregate-then-word-2 c = search needs
 then-word-requires-2 : tie.Need-then-word-requires-2
 then-word-requires-2 c κs =
     let at-if1 = c .before .before in
-    let st = at-if1 .before .before .before .before .before .before .before .before .before .before .before .before .before .before .before in
+    let st = at-if1 .before .before .before .before .before .before .before .before .before .before
+    .before .before .before .before .before in
     let a = st .args in
     omega (arith, same-bytes (a .m) (a .p) (a .d) (at-if1 .if1 .taken))
 
@@ -61,14 +63,16 @@ slice-aggregate-then-word-3 c = search needs
 then-word-requires-3 : tie.Need-then-word-requires-3
 then-word-requires-3 c κs =
     let at-if1 = c .before .before in
-    let st = at-if1 .before .before .before .before .before .before .before .before .before .before .before .before .before .before .before in
+    let st = at-if1 .before .before .before .before .before .before .before .before .before .before
+    .before .before .before .before .before in
     let a = st .args in
     omega (arith, changed-bytes (a .m) (a .p) (a .d) (at-if1 .if1 .left))
 
 then-number-requires-2 : tie.Need-then-number-requires-2
 then-number-requires-2 c κs =
     let at-if1 = c .before .before .before .before .before .before in
-    let st = at-if1 .before .before .before .before .before .before .before .before .before .before .before .before .before .before .before in
+    let st = at-if1 .before .before .before .before .before .before .before .before .before .before
+    .before .before .before .before .before in
     let a = st .args in
     omega (arith, changed-bytes (a .m) (a .p) (a .d) (at-if1 .if1 .left))
 
@@ -79,7 +83,8 @@ then-word-requires-4 : tie.Need-then-word-requires-4
 then-word-requires-4 c κs =
     let at-if1 =
     c .before .before .before .before .before .before .before .before .before .before .before in
-    let st = at-if1 .before .before .before .before .before .before .before .before .before .before .before .before .before .before .before in
+    let st = at-if1 .before .before .before .before .before .before .before .before .before .before
+    .before .before .before .before .before in
     let a = st .args in
     omega (arith, changed-bytes (a .m) (a .p) (a .d) (at-if1 .if1 .left))
 

@@ -4,7 +4,7 @@ use mathlib.Core.Path.{subst}
 use Prim.Native.Nat.{ℕ, _-_}
 use native.Mathlib.Omega.{arith}
 use Rattle.tree.specs.Tree.{nodes}
-use Rattle.sides.specs.Filled.{At}
+use Rattle.sides.specs.Between.{At}
 use Rattle.walks.proofs.WayLaws.{Walked, walked-start, walked-inner, walked-lt, on-at}
 use Rattle.walks.proofs.WayLaws.{walked-next, walked-last, way-all}
 use borrow.Author.Needs.{needs}

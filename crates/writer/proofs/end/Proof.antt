@@ -26,7 +26,7 @@ put-requires c κs =
       arith,
       end-bytes (a .moves),
       decimal-few (a .moves) (st .fits .moves .fits),
-      at-end-line .end-line .ensures .0,
+      at-end-line .end-line .ensures .count,
     )
 
 returns : tie.Need-returns

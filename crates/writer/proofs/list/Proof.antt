@@ -5,17 +5,18 @@ use mathlib.Core.Path.{_≡_, refl}
 use Prim.Native.Nat.{suc, _-_}
 use native.Mathlib.Omega.{arith}
 use lib.ListN.{length}
-use Rattle.job.specs.Steps.{lending}
-use Rattle.job.specs.Sound.{Going}
-use Rattle.job.proofs.StepForward.{step-forward}
-use Rattle.job.proofs.GoingLaws.{room-enough, going-first, going-next}
+use Rattle.jobs.specs.Steps.{lending}
+use Rattle.jobs.specs.Sound.{Going}
+use Rattle.jobs.proofs.StepForward.{step-forward}
+use Rattle.jobs.proofs.GoingLaws.{room-enough, going-first, going-next}
 use borrow.Author.Needs.{needs}
 use Rattle.writer.proofs.list.Statement.{statement}
 use Rattle.writer.proofs.list.Tie as tie
 
 abbrev Inv-loop : tie.InvT-loop
 Inv-loop input tree₀ parts₀ out₀ s₀ tree parts out s =
-    Going input s (lending tree parts out) × (length tree ≡ 250) × (length parts ≡ 64) × (length out ≡ 8192)
+    Going input s (lending tree parts out) × (length tree ≡ 250) × (length parts ≡ 64)
+    × (length out ≡ 8192)
 
 abbrev μ-loop : tie.MeasureT-loop
 μ-loop input tree₀ parts₀ out₀ s₀ tree parts out s = suc (length input) - s .at

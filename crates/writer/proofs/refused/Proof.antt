@@ -44,7 +44,7 @@ put-requires c κs =
           (at-number .number .result) (search (needs, arith)),
       decimal-few (a .place)
           (st .fits .place .fits),
-      at-refused-line .refused-line .ensures .0,
+      at-refused-line .refused-line .ensures .count,
     )
 
 returns : tie.Need-returns

@@ -1,4 +1,0 @@
-pub mod Job
-pub mod Runs
-pub mod Sound
-pub mod Steps

@@ -1,0 +1,9 @@
+pub mod StateLaws
+pub mod StepLaws
+pub mod Turns
+pub mod SoundLaws
+pub mod StepIsField
+pub mod StepForward
+pub mod GoingLaws
+pub mod RunLaws
+pub mod PlainListing

@@ -1,0 +1,6 @@
+pub mod Moved
+pub mod Named
+pub mod Plans
+pub mod Sides
+pub mod Demands
+pub mod Cases

@@ -1,0 +1,4 @@
+pub mod Chain
+pub mod Lost
+pub mod Count
+pub mod TwoChains

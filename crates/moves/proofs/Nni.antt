@@ -1,0 +1,5 @@
+pub mod Swap
+pub mod Ends
+pub mod Exchange
+pub mod FourGroups
+pub mod Move

@@ -1,0 +1,5 @@
+pub mod Puts
+pub mod Ends
+pub mod Degrees
+pub mod Sets
+pub mod Splits

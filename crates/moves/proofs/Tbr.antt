@@ -1,0 +1,3 @@
+pub mod Aims
+pub mod BothMove
+pub mod Rule

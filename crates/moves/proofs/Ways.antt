@@ -1,0 +1,7 @@
+pub mod Meeting
+pub mod GroupLists
+pub mod ThirdRow
+pub mod Walk
+pub mod Found
+pub mod Leads
+pub mod Covers

@@ -1,0 +1,4 @@
+pub mod Members
+pub mod Places
+pub mod SlotLaws
+pub mod StageLaws

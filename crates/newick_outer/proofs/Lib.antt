@@ -1,0 +1,2 @@
+pub mod OuterLaws
+pub mod WholeLaws
