@@ -115,7 +115,7 @@ pub fn number(word: &[u8]) -> u64 {
 // it could not be read whole.
 pub fn read(input: &mut [u8]) -> usize {
     let got = io::read_full(STDIN_FILENO, input);
-    if inputs::whole(got) {
+    if whole_input::whole(got) {
         return got;
     }
     0

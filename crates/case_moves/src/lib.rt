@@ -1,6 +1,6 @@
 // The move in a word of a case.
 use case_lists::numbers;
-use fits::Move;
+use move_plan::Move;
 
 // The move of a word: its kind and three row numbers.
 pub fn four(word: &[u8]) -> Move {

@@ -37,40 +37,40 @@ use Rattle.moves.specs.Groups.{moveRule}
 use Rattle.moves.specs.Verdicts.{movedSaid, judgedSaid, judgedOneSaid}
 use Rattle.moves.proofs.AnyMove.Moved.{moved-accepted, moved-dist}
 use Rattle.moves.proofs.AnyMove.Demands.{move-same-mono, move-unchanged-mono, same-iff-splits}
-use Rattle.rules.specs.Zeros.{zeros}
-use Rattle.rules.proofs.Judging.{zeros-unchanged}
+use Rattle.group_rule.specs.Zeros.{zeros}
+use Rattle.group_rule.proofs.Judging.{zeros-unchanged}
 use Rattle.judge.specs.Promises.{moveSays, Applies, judgeSays, JudgesAll, verdictSays, JudgesOne}
 use Rattle.judge.specs.declared.Moved.{Moved}
 use Rattle.judge.specs.declared.Judged.{Judged}
 use Rattle.judge.specs.declared.Verdict.{Verdict}
 use Rattle.judge.proofs.SaidLaws.{moved-one, judged-one, verdict-one}
-use Rattle.text.specs.Lines.{savedLine}
-use Rattle.text.specs.Plain.{Plain}
+use Rattle.lines.specs.Lines.{savedLine}
+use Rattle.lines.specs.Plain.{Plain}
 use Rattle.saved.specs.Saved.{savedOf, ofFourOrMore, howManyFewer}
 use Rattle.move_lines.specs.MoveLines.{verdictLines, moveLines}
-use Rattle.listing.specs.Listing.{linesOf, linesSaid, linesSays, Page, placeAfter, Lists}
-use Rattle.listing.specs.declared.Lines.{Lines}
+use Rattle.move_listing.specs.Listing.{linesOf, linesSaid, linesSays, Page, placeAfter, Lists}
+use Rattle.move_listing.specs.declared.Lines.{Lines}
 use Rattle.saved.proofs.SavedLaws.{saved-unchanged, others-unchanged}
 use Rattle.move_lines.proofs.LineLaws.{lines-are}
-use Rattle.listing.proofs.ListsLaws.{lines-one}
-use Rattle.jobs.specs.Job.{Known, next}
-use Rattle.jobs.specs.Job as job
-use Rattle.jobs.specs.Steps.{Lent, lending, toldOf, steppedSays}
-use Rattle.jobs.specs.Steps as steps
-use Rattle.jobs.specs.Runs.{first, run, Roomy}
-use Rattle.jobs.specs.Sound.{Going, Closes}
-use Rattle.jobs.specs.declared.State.{State}
-use Rattle.jobs.specs.declared.Stepped.{Stepped}
-use Rattle.jobs.proofs.PlainListing.{listing-plain}
-use Rattle.jobs.proofs.StateLaws.{stepped-one}
-use Rattle.jobs.proofs.Turns.{field-seen}
-use Rattle.jobs.proofs.StepForward.{step-forward}
-use Rattle.jobs.proofs.GoingLaws.{room-enough, going-field}
-use Rattle.jobs.proofs.RunLaws.{run-is-listing, listing-closes}
-use Rattle.grammar.specs.Newick.{IsTree}
-use Rattle.reader.specs.Promises.{Right, Reads, readingSays, Plants}
-use Rattle.reader.specs.declared.Reading.{Reading}
-use Rattle.reader.proofs.OneReading.{reads-one, reading-one, reads-valid, reads-iff}
+use Rattle.move_listing.proofs.ListsLaws.{lines-one}
+use Rattle.job_steps.specs.Job.{Known, next}
+use Rattle.job_steps.specs.Job as job
+use Rattle.job_steps.specs.Steps.{Lent, lending, toldOf, steppedSays}
+use Rattle.job_steps.specs.Steps as steps
+use Rattle.job_steps.specs.Runs.{first, run, Roomy}
+use Rattle.job_steps.specs.Sound.{Going, Closes}
+use Rattle.job_steps.specs.declared.State.{State}
+use Rattle.job_steps.specs.declared.Stepped.{Stepped}
+use Rattle.job_steps.proofs.PlainListing.{listing-plain}
+use Rattle.job_steps.proofs.StateLaws.{stepped-one}
+use Rattle.job_steps.proofs.Turns.{field-seen}
+use Rattle.job_steps.proofs.StepForward.{step-forward}
+use Rattle.job_steps.proofs.GoingLaws.{room-enough, going-field}
+use Rattle.job_steps.proofs.RunLaws.{run-is-listing, listing-closes}
+use Rattle.newick_grammar.specs.Newick.{IsTree}
+use Rattle.newick_reader.specs.Promises.{Right, Reads, readingSays, Plants}
+use Rattle.newick_reader.specs.declared.Reading.{Reading}
+use Rattle.newick_reader.proofs.OneReading.{reads-one, reading-one, reads-valid, reads-iff}
 use Rattle.tusvlane.specs.Promises as c
 use Rattle.tusvlane.specs.Numbers.{checkNumbers, inducedNumbers, compareNumbers, applyNumbers}
 use Rattle.tusvlane.specs.Numbers.{verdictNumbers, judgeNumbers, readNumbers, stepNumbers}

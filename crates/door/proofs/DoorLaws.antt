@@ -19,8 +19,8 @@ use Rattle.moves.specs.Moves.{Move, moved, moveChecks}
 use Rattle.moves.specs.Between.{planOf, planMoved, Planned}
 use Rattle.moves.specs.declared.Plan.{Plan}
 use Rattle.moves.proofs.AnyMove.Plans.{plan-moved}
-use Rattle.fits.specs.Between.{entrySays}
-use Rattle.fits.specs.declared.Entry.{Entry}
+use Rattle.move_plan.specs.Between.{entrySays}
+use Rattle.move_plan.specs.declared.Entry.{Entry}
 use Rattle.door.specs.Between.{counted, doorChecks, partsSaid, openedSaid, enteredSaid}
 use Rattle.door.specs.Between.{Entered, Ready, Opened}
 

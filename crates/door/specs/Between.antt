@@ -13,8 +13,8 @@ use Rattle.sides.specs.Between.{Looked}
 use Rattle.moves.specs.Moves.{Move, moveChecks}
 use Rattle.moves.specs.Between.{planOf, Planned}
 use Rattle.moves.specs.declared.Plan.{Plan}
-use Rattle.fits.specs.Between.{entrySays, planSaid}
-use Rattle.fits.specs.declared.Entry.{Entry}
+use Rattle.move_plan.specs.Between.{entrySays, planSaid}
+use Rattle.move_plan.specs.declared.Entry.{Entry}
 
 -- The checks of a move on a tree, in order: 1 to 5, those of the partitions, 7
 -- to 10.

@@ -9,16 +9,16 @@ ghost use Rattle.taxa.specs.Most.{most};
 ghost use Rattle.taxa.specs.Sets.{has};
 ghost use Rattle.tree.specs.Tree.{rows, every};
 ghost use Rattle.tree.specs.Refusals.{allSeen, partitionChecks, partitionsChecks};
-ghost use Rattle.near.specs.Between.{noRows};
+ghost use Rattle.node_rows.specs.Between.{noRows};
 ghost use Rattle.sides.specs.Between.{Sided};
-ghost use Rattle.fits.specs.Entries.{moveOf};
-ghost use Rattle.fits.specs.Between.{fittedSays, entrySays};
+ghost use Rattle.move_plan.specs.Entries.{moveOf};
+ghost use Rattle.move_plan.specs.Between.{fittedSays, entrySays};
 ghost use Rattle.door.specs.Between as entered;
 ghost use Rattle.door.specs.Between.{partsSaid, openedSaid, Entered};
 use calls::Refusal;
-use fits::Entry;
-use fits::Fitted;
-use fits::Move;
+use move_plan::Entry;
+use move_plan::Fitted;
+use move_plan::Move;
 use table::Checked;
 
 // Whether n is a number of taxa.
@@ -109,7 +109,7 @@ pub fn plan_after(n: usize, t: &[u8], s: &[u64], parts: Fitted, m: Move) -> Entr
     requires { ⌜ Sided n (now t) (now s) ⌝ }
     ensures { λ r. ⌜ entrySays r ≡ openedSaid n (now (t .entry)) (fittedSays parts) (moveOf m) ⌝ }
 {
-    let planned = fits::plan_of(n, t, s, m);
+    let planned = move_plan::plan_of(n, t, s, m);
     first_of(parts, planned)
 }
 
@@ -118,7 +118,7 @@ pub fn plan_after(n: usize, t: &[u8], s: &[u64], parts: Fitted, m: Move) -> Entr
 pub fn enter(
     n: usize,
     t: &[u8],
-    near: &mut [u8; near::PLACES],
+    near: &mut [u8; node_rows::PLACES],
     s: &mut [u64; sides::ROWS],
     parts: Fitted,
     m: Move,

@@ -14,16 +14,16 @@ use Rattle.calls.specs.declared.Refusal.{Refusal}
 use Rattle.calls.proofs.CallLaws.{call-is}
 use Rattle.calls.proofs.CheckLaws.{judged-next, judged-fail}
 use Rattle.fields.specs.Fields.{tagAt, allowed}
-use Rattle.jobs.specs.Job.{Known, Outcome, next, over, after, seenSoFar, endStep, tagStep}
-use Rattle.jobs.specs.Job.{field, taggedStep, taxaField, tableField, partitionField, taxaStep}
-use Rattle.jobs.specs.Job.{putStep, tableStep, partitionStep, moveStep, withTaxa}
-use Rattle.jobs.specs.Job.{withPartition, fieldOf, taggedStepOf}
-use Rattle.jobs.specs.Steps.{Lent, lending, heldTable, knownOf, fitting, toldOf}
-use Rattle.jobs.specs.Between.{Held}
-use Rattle.jobs.specs.Steps.{steppedSays, Gives, partsLent, tableLent}
-use Rattle.jobs.specs.declared.State.{State}
-use Rattle.jobs.specs.declared.Stepped.{Stepped}
-use Rattle.jobs.proofs.StepLaws.{lending-same, parts-held, table-first, table-fits}
+use Rattle.job_steps.specs.Job.{Known, Outcome, next, over, after, seenSoFar, endStep, tagStep}
+use Rattle.job_steps.specs.Job.{field, taggedStep, taxaField, tableField, partitionField, taxaStep}
+use Rattle.job_steps.specs.Job.{putStep, tableStep, partitionStep, moveStep, withTaxa}
+use Rattle.job_steps.specs.Job.{withPartition, fieldOf, taggedStepOf}
+use Rattle.job_steps.specs.Steps.{Lent, lending, heldTable, knownOf, fitting, toldOf}
+use Rattle.job_steps.specs.Between.{Held}
+use Rattle.job_steps.specs.Steps.{steppedSays, Gives, partsLent, tableLent}
+use Rattle.job_steps.specs.declared.State.{State}
+use Rattle.job_steps.specs.declared.Stepped.{Stepped}
+use Rattle.job_steps.proofs.StepLaws.{lending-same, parts-held, table-first, table-fits}
 
 -- ---- which step a tag takes
 module _ (job : List ℕ) (k : Known) (tag : ℕ) where

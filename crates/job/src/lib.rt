@@ -6,16 +6,16 @@ ghost use mathlib.Core.List.{[]};
 ghost use lib.Dec.{eqb, leb};
 ghost use lib.ListN.{length};
 ghost use Rattle.taxa.specs.Most.{most};
-ghost use Rattle.fits.specs.Between.{fittedSays};
+ghost use Rattle.move_plan.specs.Between.{fittedSays};
 ghost use Rattle.fields.specs.Fields as fields_spec;
 ghost use Rattle.fields.specs.Fields.{tagAt};
-ghost use Rattle.jobs.specs.Job.{taggedStep, field, longest};
-ghost use Rattle.jobs.specs.Steps.{lending, knownOf, holds, stateSaid, fitting, Gives, Steps};
-ghost use Rattle.jobs.specs.Between.{Held};
+ghost use Rattle.job_steps.specs.Job.{taggedStep, field, longest};
+ghost use Rattle.job_steps.specs.Steps.{lending, knownOf, holds, stateSaid, fitting, Gives, Steps};
+ghost use Rattle.job_steps.specs.Between.{Held};
 use calls::Refusal;
-use fits::Fitted;
-use jobs::State;
-use jobs::Stepped;
+use job_steps::State;
+use job_steps::Stepped;
+use move_plan::Fitted;
 
 // The most bytes in a job.
 const LONGEST: usize = 65535;
@@ -97,7 +97,7 @@ fn memory_right(s: State, table: &[u8], parts: &[u64]) -> bool
     if at <= 4 {
         return true;
     }
-    jobs::table_bytes(s.taxa) <= table.len()
+    job_steps::table_bytes(s.taxa) <= table.len()
 }
 
 // Whether nothing about a state and the lent memory is such that no job has

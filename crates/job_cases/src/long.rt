@@ -2,9 +2,9 @@
 ghost use Prim.Native.Nat.{_≤_};
 ghost use lib.ListN.{length};
 use case_lines::feeds;
-use jobs::Stepped;
-use prints::line;
-use prints::say;
+use case_prints::line;
+use case_prints::say;
+use job_steps::Stepped;
 
 // Writes how many lines the moves of a job have, then the lines of its last
 // move.
@@ -13,16 +13,16 @@ fn tally(lines: u64, out: &[u8], wrote: usize)
 {
     say(lines);
     line(b"lines, the last of them");
-    writer::put(out, wrote);
+    listing_writer::put(out, wrote);
 }
 
 // The same as the listing, but of the lines of moves only their number and the
 // last move's, since a long job has thousands.
 pub fn count(input: &[u8]) {
-    let mut tree = [0u8; jobs::TABLE];
+    let mut tree = [0u8; job_steps::TABLE];
     let mut parts = [0u64; taxa::PARTITIONS];
-    let mut out = [0u8; jobs::LINES];
-    let mut s = jobs::start();
+    let mut out = [0u8; job_steps::LINES];
+    let mut s = job_steps::start();
     let mut lines: u64 = 0;
     let mut last: usize = 0;
     loop {
@@ -34,12 +34,12 @@ pub fn count(input: &[u8]) {
             }
             Stepped::Ended => {
                 tally(lines, &out, last);
-                writer::end(s.moves);
+                listing_writer::end(s.moves);
                 return;
             }
             Stepped::Refused { why, place } => {
                 tally(lines, &out, last);
-                writer::refused(why, place);
+                listing_writer::refused(why, place);
                 return;
             }
         }

@@ -7,9 +7,9 @@ use case_lines::head;
 use case_lines::title;
 use case_lines::word;
 use case_lists::bytes;
-use prints::line;
-use prints::put;
-use prints::say;
+use case_prints::line;
+use case_prints::put;
+use case_prints::say;
 
 // Writes the line that introduces a job.
 fn introduce(l: &[u8]) {
@@ -22,7 +22,7 @@ fn introduce(l: &[u8]) {
 // A case `job NUMBER BYTES TITLE`: the listing.
 fn listed(l: &[u8], job: &[u8]) {
     introduce(l);
-    writer::list(job);
+    listing_writer::list(job);
 }
 
 // A case `long NUMBER BYTES TITLE`: the end of the listing.

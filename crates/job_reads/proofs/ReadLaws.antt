@@ -22,15 +22,16 @@ use Rattle.calls.proofs.CheckLaws.{judged-next, judged-fail, judged-all, refuse
 use Rattle.moves.specs.Moves.{Move}
 use Rattle.fields.specs.Fields.{statedAt, contentAt, numberIn, moveIn, headed, complete}
 use Rattle.fields.specs.Fields.{lengthRight}
-use Rattle.jobs.specs.Job.{Outcome, next, after, taxaField, tableField, partitionField}
-use Rattle.jobs.specs.Job.{withTaxa, withPartition, taxaStep, tableStep, putStep, partitionStep}
-use Rattle.jobs.specs.Between.{keptStep}
-use Rattle.jobs.specs.Steps.{Lent, lending, heldTable, knownOf, fitting, told, toldOf, Gives}
-use Rattle.jobs.specs.Steps.{partsLent, tableLent}
-use Rattle.jobs.specs.declared.State.{State}
-use Rattle.jobs.specs.declared.Stepped.{Stepped}
-use Rattle.jobs.proofs.StepLaws.{lending-same, table-first, table-fits}
-use Rattle.jobs.specs.Runs.{first}
+use Rattle.job_steps.specs.Job.{Outcome, next, after, taxaField, tableField, partitionField}
+use Rattle.job_steps.specs.Job.{withTaxa, withPartition, taxaStep, tableStep, putStep}
+use Rattle.job_steps.specs.Job.{partitionStep}
+use Rattle.job_steps.specs.Between.{keptStep}
+use Rattle.job_steps.specs.Steps.{Lent, lending, heldTable, knownOf, fitting, told, toldOf, Gives}
+use Rattle.job_steps.specs.Steps.{partsLent, tableLent}
+use Rattle.job_steps.specs.declared.State.{State}
+use Rattle.job_steps.specs.declared.Stepped.{Stepped}
+use Rattle.job_steps.proofs.StepLaws.{lending-same, table-first, table-fits}
+use Rattle.job_steps.specs.Runs.{first}
 
 -- ---- a length that is right
 pub reaches : (job : List ℕ) (at l : ℕ) → lengthRight job at l ≡ true → at + 3 + l ≤ length job

@@ -5,17 +5,17 @@ ghost use lib.ListN.{length, take, drop};
 ghost use Rattle.taxa.specs.Most.{most};
 ghost use Rattle.tree.specs.Tree.{rows};
 ghost use Rattle.calls.specs.Calls.{tells};
-ghost use Rattle.fits.specs.Entries.{moveOf};
+ghost use Rattle.move_plan.specs.Entries.{moveOf};
 ghost use Rattle.fields.specs.Fields.{moveIn};
-ghost use Rattle.jobs.specs.Job.{taxaStep, tableStep, putStep, partitionStep, moveStep, longest};
-ghost use Rattle.jobs.specs.Steps.{lending, tableLent, partsLent, knownOf};
-ghost use Rattle.jobs.specs.Steps.{fitting, steppedSays, toldOf, Gives};
-ghost use Rattle.jobs.specs.Between.{keptStep, Held};
+ghost use Rattle.job_steps.specs.Job.{taxaStep, tableStep, putStep, partitionStep, moveStep, longest};
+ghost use Rattle.job_steps.specs.Steps.{lending, tableLent, partsLent, knownOf};
+ghost use Rattle.job_steps.specs.Steps.{fitting, steppedSays, toldOf, Gives};
+ghost use Rattle.job_steps.specs.Between.{keptStep, Held};
 use calls::Refusal;
-use fits::Move;
-use jobs::State;
-use jobs::Stepped;
-use listing::Lines;
+use job_steps::State;
+use job_steps::Stepped;
+use move_listing::Lines;
+use move_plan::Move;
 use table::Checked;
 
 // Tag 1: n.
@@ -108,7 +108,7 @@ pub fn read_table(job: &[u8], at: usize, n: usize, table: &mut [u8]) -> Stepped
             place: at,
         };
     }
-    let l = jobs::table_bytes(n);
+    let l = job_steps::table_bytes(n);
     if fields::stated(job, at) != l {
         return Stepped::Refused {
             why: Refusal::Length,
@@ -204,9 +204,9 @@ pub fn read_move(job: &[u8], s: State, table: &mut [u8], parts: &[u64], out: &mu
         };
     }
     let m = move_in(job, at + 3);
-    let l = jobs::table_bytes(n);
+    let l = job_steps::table_bytes(n);
     let number = s.moves + 1;
-    match listing::list_move(n, &mut table[..l], &parts[..c], m, number, out, 0) {
+    match move_listing::list_move(n, &mut table[..l], &parts[..c], m, number, out, 0) {
         Lines::Refused(r) => Stepped::Refused { why: r, place: at },
         Lines::To(e) => Stepped::Next {
             state: State {

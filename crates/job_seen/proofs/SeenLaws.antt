@@ -13,10 +13,10 @@ use Rattle.taxa.proofs.Bools.{and-false-r}
 use Rattle.calls.specs.Calls.{Said, gives, refusesAt, _else_}
 use Rattle.tree.specs.Refusals.{allSeen}
 use Rattle.calls.proofs.CheckLaws.{judged-all, judged-next, judged-fail}
-use Rattle.jobs.specs.Job.{Known, over, after, partsRead, seenSoFar, endStep}
-use Rattle.jobs.specs.Steps.{lending, knownOf}
-use Rattle.jobs.specs.Between.{Parted}
-use Rattle.jobs.specs.declared.State.{State}
+use Rattle.job_steps.specs.Job.{Known, over, after, partsRead, seenSoFar, endStep}
+use Rattle.job_steps.specs.Steps.{lending, knownOf}
+use Rattle.job_steps.specs.Between.{Parted}
+use Rattle.job_steps.specs.declared.State.{State}
 
 module _ (s : State) (parts : List ℕ) (h : Parted s parts) where
   abbrev k : Known

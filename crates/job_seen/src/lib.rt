@@ -4,12 +4,12 @@ ghost use mathlib.Core.Bool.{_||_};
 ghost use lib.Dec.{eqb};
 ghost use Rattle.calls.specs.Calls.{refusesAt, tells};
 ghost use Rattle.calls.specs.declared.Refusal.the-variants as refusal;
-ghost use Rattle.jobs.specs.Job.{seenSoFar, endStep};
-ghost use Rattle.jobs.specs.Steps.{partsLent, knownOf, steppedSays, toldOf};
-ghost use Rattle.jobs.specs.Between.{Parted};
+ghost use Rattle.job_steps.specs.Job.{seenSoFar, endStep};
+ghost use Rattle.job_steps.specs.Steps.{partsLent, knownOf, steppedSays, toldOf};
+ghost use Rattle.job_steps.specs.Between.{Parted};
 use calls::Refusal;
-use jobs::State;
-use jobs::Stepped;
+use job_steps::State;
+use job_steps::Stepped;
 
 // Whether 16 is not given: partitions are not what was read last, or each
 // taxon is in one.

@@ -19,11 +19,11 @@ use Rattle.moves.proofs.AnyMove.Plans.{PlanRight, plan-right, plan-dist}
 use Rattle.calls.specs.Calls.{atStart}
 use Rattle.calls.specs.Between.{Wrote}
 use Rattle.calls.proofs.StartLaws.{wrote-take}
-use Rattle.rewrite.specs.Between.{Rewrites}
-use Rattle.walks.specs.Between.{Asked, Listed, room}
-use Rattle.rules.specs.Zeros.{zeros}
-use Rattle.rules.specs.Between.{Few, Judges}
-use Rattle.rules.proofs.Judging.{mapped-distances}
+use Rattle.moved_rows.specs.Between.{Rewrites}
+use Rattle.move_groups.specs.Between.{Asked, Listed, room}
+use Rattle.group_rule.specs.Zeros.{zeros}
+use Rattle.group_rule.specs.Between.{Few, Judges}
+use Rattle.group_rule.proofs.Judging.{mapped-distances}
 use Rattle.door.specs.Between.{Ready}
 
 -- an inner node that stays has two groups

@@ -8,7 +8,7 @@ use lib.Dec.{leb}
 use lib.ListN.{length}
 use borrow.Author.Tests.{le-leb, lt-leb, ltb-true}
 use Rattle.calls.specs.Between.{Wrote}
-use Rattle.rules.specs.Zeros.{zeros}
+use Rattle.group_rule.specs.Zeros.{zeros}
 use Rattle.calls.specs.declared.Refusal.{Refusal}
 use Rattle.calls.specs.Calls.{Said, gives, judged}
 use Rattle.calls.proofs.CheckLaws.{judged-next, judged-fail}
@@ -18,7 +18,7 @@ use Rattle.tree.specs.Refusals.{partitionChecks, partitionsChecks, roomChecks}
 use Rattle.moves.specs.Moves.{Move, moved}
 use Rattle.moves.specs.Between.{planMoved}
 use Rattle.moves.specs.declared.Plan.{Plan}
-use Rattle.fits.specs.declared.Entry.{Entry}
+use Rattle.move_plan.specs.declared.Entry.{Entry}
 use Rattle.door.specs.Between.{partsSaid, Entered, Opened}
 use Rattle.door.proofs.PartitionLaws.{no-parts}
 use Rattle.door.proofs.DoorLaws.{door-refuses, opened-says, opened-moved}

@@ -10,7 +10,7 @@ use Rattle.tree.specs.Splits.{distances}
 use Rattle.tree.specs.Refusals.{each, roomChecks}
 use Rattle.moves.specs.Between.{planMoved}
 use Rattle.moves.specs.declared.Plan.{Plan}
-use Rattle.rules.specs.Zeros.{zeros}
+use Rattle.group_rule.specs.Zeros.{zeros}
 use Rattle.judge.specs.declared.Judged.{Judged}
 use Rattle.judge.specs.Promises.{judgeSays}
 

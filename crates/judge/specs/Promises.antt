@@ -7,7 +7,7 @@ use Rattle.calls.specs.Calls.{Said, gives, refuses, Call, Answers, tells, done,
 use Rattle.calls.specs.Calls.{atStart}
 use Rattle.moves.specs.Moves.{Move}
 use Rattle.moves.specs.Verdicts.{movedSaid, judgedSaid, judgedOneSaid}
-use Rattle.rules.specs.Zeros.{zeros}
+use Rattle.group_rule.specs.Zeros.{zeros}
 use Rattle.judge.specs.declared.Moved.{Moved}
 use Rattle.judge.specs.declared.Moved.the-variants as moved
 use Rattle.judge.specs.declared.Judged.{Judged}

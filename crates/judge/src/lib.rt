@@ -6,16 +6,16 @@ ghost use Rattle.calls.specs.Calls.{Pass};
 ghost use Rattle.tree.specs.Splits.{dist, distances};
 ghost use Rattle.tree.specs.Refusals.{partitionsChecks};
 ghost use Rattle.moves.specs.Between.{planMoved};
-ghost use Rattle.fits.specs.Entries.{moveOf};
+ghost use Rattle.move_plan.specs.Entries.{moveOf};
 ghost use Rattle.door.specs.Between.{Ready};
 ghost use Rattle.judge.specs.Promises.{Applies, JudgesAll, JudgesOne};
 ghost use Rattle.judge.specs.Between.{JudgesPlan, Judgeable};
 ghost use Rattle.calls.specs.Between.{Wrote};
-ghost use Rattle.rules.specs.Zeros.{zeros};
+ghost use Rattle.group_rule.specs.Zeros.{zeros};
 use calls::Refusal;
-use fits::Entry;
-use fits::Fitted;
-use fits::Move;
+use move_plan::Entry;
+use move_plan::Fitted;
+use move_plan::Move;
 use moves::Plan;
 
 // The answer of a move alone.
@@ -41,13 +41,13 @@ pub enum Verdict {
 pub fn apply_move(n: usize, t: &mut [u8], m: Move) -> Moved
     ensures { λ r. ⌜ Applies n (now (t .entry)) (moveOf m) r (now (t .exit)) ⌝ }
 {
-    let mut near = [near::FREE; near::PLACES];
+    let mut near = [node_rows::FREE; node_rows::PLACES];
     let mut s = [0u64; sides::ROWS];
     let entry = door::enter(n, t, &mut near, &mut s, Fitted::Fits, m);
     match entry {
         Entry::Refused(r) => Moved::Refused(r),
         Entry::Opens(p) => {
-            rewrite::move_rows(n, t, &near, p);
+            moved_rows::move_rows(n, t, &near, p);
             Moved::Done
         }
     }
@@ -70,11 +70,11 @@ pub fn judge_groups(
         let ds = distances n t (planMoved n t p) (now (ys .entry)) in
         ⌜ Wrote zeros ds (now (out .entry)) r (now (out .exit)) ⌝ }
 {
-    let mut gs = [0u64; walks::ROOM];
-    let mut hs = [0u64; walks::ROOM];
-    let k = walks::groups(n, t, near, s, p.row, p.first, &mut gs);
-    let j = walks::groups(n, t, near, s, p.row, p.second, &mut hs);
-    rules::distance_each(p.nni, &gs[..k], &hs[..j], ys, out)
+    let mut gs = [0u64; move_groups::ROOM];
+    let mut hs = [0u64; move_groups::ROOM];
+    let k = move_groups::groups(n, t, near, s, p.row, p.first, &mut gs);
+    let j = move_groups::groups(n, t, near, s, p.row, p.second, &mut hs);
+    group_rule::distance_each(p.nni, &gs[..k], &hs[..j], ys, out)
 }
 
 // The judgement of a move that fits, where the partitions are right: refusal
@@ -106,7 +106,7 @@ pub fn judge_move(n: usize, t: &[u8], ys: &[u64], m: Move, out: &mut [u64]) -> J
         let m = moveOf m in
         ⌜ JudgesAll n (now (t .entry)) (now (ys .entry)) m (now (out .entry)) r (now (out .exit)) ⌝ }
 {
-    let mut near = [near::FREE; near::PLACES];
+    let mut near = [node_rows::FREE; node_rows::PLACES];
     let mut s = [0u64; sides::ROWS];
     let parts = door::parts_fit(n, ys);
     let entry = door::enter(n, t, &mut near, &mut s, parts, m);
@@ -121,18 +121,18 @@ fn one_groups(n: usize, t: &[u8], near: &[u8], s: &[u64], p: Plan, y: u64) -> u6
     requires { ⌜ (Ready n (now t) (now near) (now s) p) × (y < 2 ^ n) ⌝ }
     ensures { λ d. let t = now (t .entry) in ⌜ d ≡ dist n t (planMoved n t p) y ⌝ }
 {
-    let mut gs = [0u64; walks::ROOM];
-    let mut hs = [0u64; walks::ROOM];
-    let k = walks::groups(n, t, near, s, p.row, p.first, &mut gs);
-    let j = walks::groups(n, t, near, s, p.row, p.second, &mut hs);
-    rules::distance(p.nni, &gs[..k], &hs[..j], y)
+    let mut gs = [0u64; move_groups::ROOM];
+    let mut hs = [0u64; move_groups::ROOM];
+    let k = move_groups::groups(n, t, near, s, p.row, p.first, &mut gs);
+    let j = move_groups::groups(n, t, near, s, p.row, p.second, &mut hs);
+    group_rule::distance(p.nni, &gs[..k], &hs[..j], y)
 }
 
 // Judges a move for one partition. Refusals 1 to 10.
 pub fn judge_one(n: usize, t: &[u8], y: u64, m: Move) -> Verdict
     ensures { λ r. ⌜ JudgesOne n (now (t .entry)) y (moveOf m) r ⌝ }
 {
-    let mut near = [near::FREE; near::PLACES];
+    let mut near = [node_rows::FREE; node_rows::PLACES];
     let mut s = [0u64; sides::ROWS];
     let parts = door::part_fits(n, y);
     let entry = door::enter(n, t, &mut near, &mut s, parts, m);

@@ -16,7 +16,7 @@ fn call(l: &[u8], copy: &[u8], t: &mut [u8]) {
         b'o' => moves::one(l, n, t),
         b'e' => moves::each(l, n, t),
         b'a' => moves::apply(l, n, copy, t),
-        _ => prints::line(b"no such call"),
+        _ => case_prints::line(b"no such call"),
     }
 }
 

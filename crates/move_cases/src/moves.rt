@@ -9,14 +9,14 @@ use case_lists::all_marks;
 use case_lists::firsts;
 use case_lists::numbers;
 use case_moves::four;
+use case_prints::kept;
+use case_prints::line;
+use case_prints::put;
+use case_prints::rows;
+use case_prints::tell;
 use judge::Judged;
 use judge::Moved;
 use judge::Verdict;
-use prints::kept;
-use prints::line;
-use prints::put;
-use prints::rows;
-use prints::tell;
 
 // A case `one TAXA TABLE PARTITION MOVE TITLE`: the distance, or the refusal.
 pub fn one(l: &[u8], n: usize, t: &[u8]) {
@@ -34,7 +34,7 @@ fn list(l: &[u8], n: usize, t: &[u8], ys: &[u64], out: &mut [u64]) {
     match judge::judge_move(n, t, ys, four(word(l, 4)), out) {
         Judged::Same(k) => {
             tell(k as u64, b"same, list ");
-            prints::numbers(out);
+            case_prints::numbers(out);
         }
         Judged::Refused(r) => {
             tell(calls::number(r) as u64, b"refused, list ");

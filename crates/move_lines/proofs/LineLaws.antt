@@ -10,9 +10,9 @@ use lib.ListN.{length, getD, take, drop, length-append, take-append-drop, length
 use lib.Seq.{take-suc, length-take-le, take-length}
 use Rattle.calls.specs.Between.{Wrote}
 use Rattle.calls.proofs.StartLaws.{wrote-length}
-use Rattle.text.specs.Lines.{verdictLine, savedLine}
-use Rattle.text.proofs.Placing.{follows, back}
-use Rattle.rules.specs.Zeros.{zeros}
+use Rattle.lines.specs.Lines.{verdictLine, savedLine}
+use Rattle.lines.proofs.Placing.{follows, back}
+use Rattle.group_rule.specs.Zeros.{zeros}
 use Rattle.move_lines.specs.MoveLines.{verdictLines, linesWith}
 
 verdicts-append : (m p : ℕ) (xs ys : List ℕ)

@@ -2,10 +2,10 @@
 use mathlib.Core.List.{List, [], _∷_}
 use Prim.Native.Nat.{ℕ, _+_}
 use lib.ListN.{length}
-use Rattle.rules.specs.Zeros.{zeros}
-use Rattle.text.specs.Lines.{verdictLine, savedLine}
-use Rattle.text.specs.Plain.{Plain, none}
-use Rattle.text.proofs.PlainLaws.{verdict-plain, saved-plain, plain-append}
+use Rattle.group_rule.specs.Zeros.{zeros}
+use Rattle.lines.specs.Lines.{verdictLine, savedLine}
+use Rattle.lines.specs.Plain.{Plain, none}
+use Rattle.lines.proofs.PlainLaws.{verdict-plain, saved-plain, plain-append}
 use Rattle.move_lines.specs.MoveLines.{verdictLines, linesWith}
 
 pub verdicts-plain : (m p : ℕ) (ds : List ℕ) → Plain (verdictLines m p ds)

@@ -2,8 +2,8 @@
 use Prim.Native.Nat.{ℕ, _+_}
 use mathlib.Core.List.{List, [], _∷_, _++_}
 use lib.ListN.{length}
-use Rattle.rules.specs.Zeros.{zeros}
-use Rattle.text.specs.Lines.{verdictLine, savedLine}
+use Rattle.group_rule.specs.Zeros.{zeros}
+use Rattle.lines.specs.Lines.{verdictLine, savedLine}
 use Rattle.saved.specs.Saved.{savedOf}
 
 -- The lines for partition p, p + 1, .. in the order sent: a distance for each.

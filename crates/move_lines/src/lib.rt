@@ -4,7 +4,7 @@ ghost use mathlib.Core.Path.{_≡_};
 ghost use lib.ListN.{length};
 ghost use Rattle.taxa.specs.Most.{mostPartitions};
 ghost use Rattle.calls.specs.Between.{Wrote};
-ghost use Rattle.rules.specs.Zeros.{zeros};
+ghost use Rattle.group_rule.specs.Zeros.{zeros};
 ghost use Rattle.move_lines.specs.MoveLines.{verdictLines, linesWith};
 
 // How many bytes the verdict lines of move m take, a line for each distance.
@@ -15,7 +15,7 @@ fn verdicts_width(m: u64, ds: &[u64]) -> usize
     let mut w: usize = 0;
     let mut i: usize = 0;
     while i < ds.len() {
-        let k = text::verdict_width(m, (i + 1) as u64, ds[i]);
+        let k = lines::verdict_width(m, (i + 1) as u64, ds[i]);
         w += k;
         i += 1;
     }
@@ -29,7 +29,7 @@ pub fn lines_width(m: u64, ds: &[u64], saved: usize, same: usize) -> usize
     ensures { λ r. ⌜ r ≡ length (linesWith m (now (ds .entry)) saved) ⌝ }
 {
     let w = verdicts_width(m, ds);
-    let k = text::saved_width(m, saved as u64, same as u64, ds.len() as u64);
+    let k = lines::saved_width(m, saved as u64, same as u64, ds.len() as u64);
     w + k
 }
 
@@ -44,7 +44,7 @@ fn put_verdicts(m: u64, ds: &[u64], out: &mut [u8]) -> usize
     let mut e: usize = 0;
     let mut i: usize = 0;
     while i < ds.len() {
-        let k = text::verdict_line(m, (i + 1) as u64, ds[i], &mut out[e..]);
+        let k = lines::verdict_line(m, (i + 1) as u64, ds[i], &mut out[e..]);
         e += k;
         i += 1;
     }
@@ -61,6 +61,6 @@ pub fn put_lines(m: u64, ds: &[u64], saved: usize, same: usize, out: &mut [u8]) 
         ⌜ Wrote length ls (now (out .entry)) r (now (out .exit)) ⌝ }
 {
     let e = put_verdicts(m, ds, out);
-    let k = text::saved_line(m, saved as u64, same as u64, ds.len() as u64, &mut out[e..]);
+    let k = lines::saved_line(m, saved as u64, same as u64, ds.len() as u64, &mut out[e..]);
     e + k
 }

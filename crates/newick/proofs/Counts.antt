@@ -5,11 +5,12 @@ use Prim.Native.Nat.{ℕ}
 use native.Mathlib.Omega.{arith}
 use lib.ListN.{length}
 use Rattle.calls.specs.declared.Refusal.{Refusal}
-use Rattle.reader.specs.declared.Reading.{Reading}
-use Rattle.reader.specs.declared.Reading.the-variants as reading
+use Rattle.newick_reader.specs.declared.Reading.{Reading}
+use Rattle.newick_reader.specs.declared.Reading.the-variants as reading
 use Rattle.calls.specs.Calls.{gives, refuses, tells, done}
-use Rattle.reader.specs.Promises.{Right, Reads, of-count, of-text, of-room, of-tree, readingSays}
-use Rattle.reader.specs.Promises.{Plants}
+use Rattle.newick_reader.specs.Promises.{Right, Reads, of-count, of-text, of-room, of-tree}
+use Rattle.newick_reader.specs.Promises.{readingSays}
+use Rattle.newick_reader.specs.Promises.{Plants}
 
 pub read-right : (n : ℕ) (s out out′ : List ℕ) (r : Reading)
     → Plants n s out r out′ → r ≡ reading.Table → Right n

@@ -9,9 +9,9 @@ use lib.Dec.{ltb}
 use lib.ListN.{length, getD}
 use borrow.Author.Tests.{ltb-true, ltb-false}
 use Rattle.taxa.proofs.Bools.{either}
-use Rattle.labels.specs.Between.{valueAt}
-use Rattle.labels.proofs.HeadLaws.{among-digits, value-byte}
-use Rattle.labels.proofs.TextLaws.{one-digit, two-digits}
+use Rattle.newick_labels.specs.Between.{valueAt}
+use Rattle.newick_labels.proofs.HeadLaws.{among-digits, value-byte}
+use Rattle.newick_labels.proofs.TextLaws.{one-digit, two-digits}
 use Rattle.newick.specs.Input.{Number, LineSays}
 
 -- ---- lines of one byte and of two

@@ -4,7 +4,7 @@ use mathlib.Core.Path.{_≡_}
 use mathlib.Core.Logic.{_⊎_}
 use mathlib.Core.List.{List, [], _∷_}
 use Rattle.tree.specs.Tree.{rows}
-use Rattle.text.specs.Lines.{decimal}
+use Rattle.lines.specs.Lines.{decimal}
 
 -- The line is k in decimal, which is 1 to 99.
 pub record Number (line : List ℕ) (k : ℕ) : Type 0 where

@@ -4,13 +4,13 @@ ghost use Prim.Native.Nat.{_*_, _≤_};
 ghost use mathlib.Core.Path.{_≡_};
 ghost use lib.ListN.{length};
 ghost use Rattle.tree.specs.Tree.{rows};
-ghost use Rattle.reader.specs.Promises.{Right};
+ghost use Rattle.newick_reader.specs.Promises.{Right};
 ghost use Rattle.newick.specs.Input.{LineSays, heads};
 use calls::Refusal;
 use libc::STDERR_FILENO;
 use libc::STDIN_FILENO;
 use libc::STDOUT_FILENO;
-use reader::Reading;
+use newick_reader::Reading;
 
 // The byte of a line feed.
 const FEED: u8 = 10;
@@ -20,7 +20,7 @@ const FEED: u8 = 10;
 fn taxa_in(line: &[u8]) -> usize
     ensures { λ r. ⌜ LineSays (now (line .entry)) r ⌝ }
 {
-    let a = labels::value_at(line, 0);
+    let a = newick_labels::value_at(line, 0);
     if 9 < a {
         return 0;
     }
@@ -31,7 +31,7 @@ fn taxa_in(line: &[u8]) -> usize
     if line.len() == 1 {
         return a;
     }
-    let b = labels::value_at(line, 1);
+    let b = newick_labels::value_at(line, 1);
     if 9 < b {
         return 0;
     }
@@ -95,7 +95,7 @@ fn refuse_at(why: Refusal, place: usize) {
 // room is that of the largest table, so 11 does not arise.
 fn turn(n: usize, text: &[u8]) {
     let mut lent = [0u8; 250];
-    match reader::read_newick(n, text, &mut lent) {
+    match newick_reader::read_newick(n, text, &mut lent) {
         Reading::Table => give(n, &lent),
         Reading::Refused(why) => refuse(why),
         Reading::RefusedAt(why, place) => refuse_at(why, place),
@@ -120,7 +120,7 @@ fn answer(input: &[u8]) {
 fn main() {
     let mut input = io::large_buffer();
     let got = io::read_full(STDIN_FILENO, &mut input);
-    if !inputs::whole(got) {
+    if !whole_input::whole(got) {
         io::write_all(STDERR_FILENO, b"the text could not be read\n");
         return;
     }

@@ -6,8 +6,8 @@ use case_lines::size;
 use case_lines::title;
 use case_lines::word;
 use case_lists::table_bytes;
-use prints::line;
-use prints::tell;
+use case_prints::line;
+use case_prints::tell;
 use splits::Compared;
 
 // Says a distance, or the refusal.
@@ -21,7 +21,7 @@ fn answered(answer: Compared) {
 // A line for the tree of a text, read into what is lent, and that of a table.
 fn compared(l: &[u8], text: &[u8], lent: &mut [u8], other: &[u8]) {
     let n = size(l, 1);
-    reader::read_newick(n, text, lent);
+    newick_reader::read_newick(n, text, lent);
     answered(splits::compare(n, lent, other, number(word(l, 4))));
     line(title(l, 5));
 }
@@ -37,7 +37,7 @@ pub fn table(l: &[u8], text: &[u8], other: &[u8]) {
 
 // The same with the table of a second text, read into what is lent.
 fn both(l: &[u8], text: &[u8], other: &[u8], lent: &mut [u8]) {
-    reader::read_newick(size(l, 1), other, lent);
+    newick_reader::read_newick(size(l, 1), other, lent);
     table(l, text, lent);
 }
 

@@ -21,7 +21,7 @@ fn on_text(l: &[u8], text: &[u8], other: &[u8]) {
         b'c' => texts::cuts(l, text),
         b't' => apart::table(l, text, other),
         b'b' => apart::beside(l, text, other),
-        _ => prints::line(b"no such case"),
+        _ => case_prints::line(b"no such case"),
     }
 }
 

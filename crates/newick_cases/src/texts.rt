@@ -3,13 +3,13 @@ use case_lines::first;
 use case_lines::size;
 use case_lines::title;
 use case_lists::marked;
-use prints::kept;
-use prints::line;
-use prints::number;
-use prints::put;
-use prints::rows;
-use prints::tell;
-use reader::Reading;
+use case_prints::kept;
+use case_prints::line;
+use case_prints::number;
+use case_prints::put;
+use case_prints::rows;
+use case_prints::tell;
+use newick_reader::Reading;
 
 // A mark for lent tables, which is no node.
 pub const MARK: u8 = 255;
@@ -33,7 +33,7 @@ fn answered(answer: Reading) {
 // A line for a text read into lent marks: the answer, and whether those from a
 // place on are kept.
 fn read(n: usize, text: &[u8], lent: &mut [u8], from: usize, words: &[u8]) {
-    answered(reader::read_newick(n, text, lent));
+    answered(newick_reader::read_newick(n, text, lent));
     kept(marked(lent, MARK, from));
     line(words);
 }
@@ -65,7 +65,7 @@ pub fn lend(l: &[u8], text: &[u8]) {
 // Two lines for a text that is accepted: the answer, and the rows of the lent
 // table.
 fn accepted(n: usize, text: &[u8], lent: &mut [u8], words: &[u8]) {
-    answered(reader::read_newick(n, text, lent));
+    answered(newick_reader::read_newick(n, text, lent));
     line(words);
     rows(lent);
     line(b"in the table");

@@ -13,12 +13,12 @@ use Rattle.taxa.specs.Sets.{tally, pick, has, add, less, full, size}
 use Rattle.taxa.proofs.Sets.{has-add, has-less, has-ones, has-none}
 use Rattle.taxa.proofs.Sizes.{size-none, tally-one}
 use Rattle.taxa.proofs.Bools.{and-left, and-right}
-use Rattle.labels.specs.Between.{digit, Stop}
-use Rattle.labels.proofs.TextLaws.{Spelt, single, double, spelt, label-settled}
-use Rattle.text.specs.Lines.{decimal}
-use Rattle.grammar.specs.Newick.{Member, taxon, group, text, times, comma, closes}
-use Rattle.grammar.specs.Numbers.{groups}
-use Rattle.grammar.proofs.Labels.{Below, labels-all, full-labels, size-with, total}
+use Rattle.newick_labels.specs.Between.{digit, Stop}
+use Rattle.newick_labels.proofs.TextLaws.{Spelt, single, double, spelt, label-settled}
+use Rattle.lines.specs.Lines.{decimal}
+use Rattle.newick_grammar.specs.Newick.{Member, taxon, group, text, times, comma, closes}
+use Rattle.newick_grammar.specs.Numbers.{groups}
+use Rattle.newick_grammar.proofs.Labels.{Below, labels-all, full-labels, size-with, total}
 use Rattle.newick_members.specs.Between.{mark, Within, Fits, allowed, Next, Over}
 
 -- ---- tests as numbers

@@ -11,9 +11,9 @@ use lib.ListN.{length, take, drop, getD, take-append-drop, drop-of-length-le}
 use lib.Seq.{drop-cons}
 use borrow.Author.Tests.{lt-ltb, ltb-true, ltb-false, eq-eqb, eqb-true}
 use Rattle.taxa.proofs.Bools.{and-left, and-right}
-use Rattle.labels.specs.Between.{Stop}
-use Rattle.labels.proofs.TextLaws.{step}
-use Rattle.grammar.specs.Newick.{Member, taxon, group, IsTree, GoesOn, NoTree}
+use Rattle.newick_labels.specs.Between.{Stop}
+use Rattle.newick_labels.proofs.TextLaws.{step}
+use Rattle.newick_grammar.specs.Newick.{Member, taxon, group, IsTree, GoesOn, NoTree}
 use Rattle.newick_members.specs.Between.{Over, here}
 
 -- x begins as s goes on at a place

@@ -11,12 +11,13 @@ use lib.Seq.{drop-cons}
 use borrow.Author.Tests.{eq-eqb}
 use Rattle.taxa.specs.Most.{most}
 use Rattle.taxa.specs.Sets.{has, size}
-use Rattle.text.specs.Lines.{decimal}
-use Rattle.labels.specs.Between.{Stop, Found, Missed}
-use Rattle.grammar.specs.Newick.{Member, taxon, group, text, times, IsTree, GoesOn, NoTree, opens}
-use Rattle.grammar.specs.Newick.{comma, closes}
-use Rattle.grammar.specs.Numbers.{groups}
-use Rattle.grammar.proofs.Labels.{Below}
+use Rattle.lines.specs.Lines.{decimal}
+use Rattle.newick_labels.specs.Between.{Stop, Found, Missed}
+use Rattle.newick_grammar.specs.Newick.{Member, taxon, group, text, times, IsTree, GoesOn, NoTree}
+use Rattle.newick_grammar.specs.Newick.{opens}
+use Rattle.newick_grammar.specs.Newick.{comma, closes}
+use Rattle.newick_grammar.specs.Numbers.{groups}
+use Rattle.newick_grammar.proofs.Labels.{Below}
 use Rattle.newick_members.specs.Between.{mark, Fits, allowed, Over, Onward, Slot, here, Past}
 use Rattle.newick_members.proofs.Members.{below, mark-within, mark-size, fits-left}
 use Rattle.newick_members.proofs.Members.{fits-right, fits-group, allowed-fits, fits-allowed}

@@ -15,14 +15,14 @@ use Rattle.taxa.specs.Sets.{tally, has, less, full, size}
 use Rattle.taxa.proofs.Bools.{either}
 use Rattle.taxa.proofs.Sizes.{size-wide}
 use Rattle.tree.specs.Tree.{rows}
-use Rattle.text.specs.Lines.{decimal}
-use Rattle.labels.specs.Between.{Found, Missed, LabelIs}
-use Rattle.labels.specs.declared.Label.{Label}
-use Rattle.labels.specs.declared.Label.the-variants as label
-use Rattle.grammar.specs.Newick.{taxon, group, NoTree, opens, comma}
-use Rattle.grammar.specs.Numbers.{groups, node, join, withRows, smaller, larger}
-use Rattle.grammar.proofs.Writes.{length-join}
-use Rattle.grammar.proofs.Valid.{node-lt, length-rows}
+use Rattle.lines.specs.Lines.{decimal}
+use Rattle.newick_labels.specs.Between.{Found, Missed, LabelIs}
+use Rattle.newick_labels.specs.declared.Label.{Label}
+use Rattle.newick_labels.specs.declared.Label.the-variants as label
+use Rattle.newick_grammar.specs.Newick.{taxon, group, NoTree, opens, comma}
+use Rattle.newick_grammar.specs.Numbers.{groups, node, join, withRows, smaller, larger}
+use Rattle.newick_grammar.proofs.Writes.{length-join}
+use Rattle.newick_grammar.proofs.Valid.{node-lt, length-rows}
 use Rattle.newick_members.specs.declared.Cursor.{Cursor}
 use Rattle.newick_members.specs.declared.Got.{Got}
 use Rattle.newick_members.specs.declared.Got.the-variants as got

@@ -9,10 +9,11 @@ use lib.ListN.{length, take, drop, getD}
 use Rattle.taxa.specs.Most.{most}
 use Rattle.taxa.specs.Sets.{tally, pick, has, add, less, full, size}
 use Rattle.tree.specs.Tree.{rows}
-use Rattle.labels.specs.Between.{Stop, Ends, Found, Missed}
-use Rattle.grammar.specs.Newick.{Member, taxon, group, Outermost, semicolon, closes, text, whole}
-use Rattle.grammar.specs.Newick.{times, EachOnce, IsTree, NoTree}
-use Rattle.grammar.specs.Numbers.{groups, node, join, withRows}
+use Rattle.newick_labels.specs.Between.{Stop, Ends, Found, Missed}
+use Rattle.newick_grammar.specs.Newick.{Member, taxon, group, Outermost, semicolon, closes, text}
+use Rattle.newick_grammar.specs.Newick.{whole}
+use Rattle.newick_grammar.specs.Newick.{times, EachOnce, IsTree, NoTree}
+use Rattle.newick_grammar.specs.Numbers.{groups, node, join, withRows}
 use Rattle.newick_members.specs.declared.Cursor.{Cursor}
 use Rattle.newick_members.specs.declared.Got.{Got}
 use Rattle.newick_members.specs.declared.Got.the-variants as got

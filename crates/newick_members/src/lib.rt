@@ -5,11 +5,11 @@ ghost use mathlib.Core.Path.{_≡_};
 ghost use lib.ListN.{length};
 ghost use Rattle.taxa.specs.Most.{most};
 ghost use Rattle.table.specs.Between.{HasRow};
-ghost use Rattle.grammar.specs.Numbers as numbers;
+ghost use Rattle.newick_grammar.specs.Numbers as numbers;
 ghost use Rattle.newick_members.specs.Between as between;
 ghost use Rattle.newick_members.specs.Between.{Within, allowed, here};
 ghost use Rattle.newick_members.specs.Between.{TakenIs, Closes, ClosedIs, Ready, GotIs};
-use labels::Label;
+use newick_labels::Label;
 
 // Where the reader is: the place in the text, the number of the next group to
 // close, and the taxa read.
@@ -74,7 +74,7 @@ fn taxon_at(s: &[u8], n: usize, c: Cursor, more: bool) -> Got
     }
     let used = c.used;
     let free = free_taxa(n, used, more);
-    match labels::read(s, c.at, free) {
+    match newick_labels::read(s, c.at, free) {
         Label::Bad(p) => Got::Bad(p),
         Label::Taxon(d, at) => Got::Node(
             Cursor {

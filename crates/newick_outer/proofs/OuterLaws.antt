@@ -14,12 +14,14 @@ use Rattle.taxa.specs.Most.{most}
 use Rattle.taxa.specs.Sets.{tally, size}
 use Rattle.taxa.proofs.Sets.{has-none}
 use Rattle.taxa.proofs.Sizes.{size-none}
-use Rattle.labels.specs.Between.{Stop}
-use Rattle.grammar.specs.Newick.{Member, taxon, group, Outermost, two, three, text, whole, times}
-use Rattle.grammar.specs.Newick.{timesIn, EachOnce, Stands, IsTree, GoesOn, NoTree, opens, comma}
-use Rattle.grammar.specs.Newick.{closes, semicolon}
-use Rattle.grammar.specs.Numbers.{groups}
-use Rattle.grammar.proofs.Labels.{two-total, three-total}
+use Rattle.newick_labels.specs.Between.{Stop}
+use Rattle.newick_grammar.specs.Newick.{Member, taxon, group, Outermost, two, three, text, whole}
+use Rattle.newick_grammar.specs.Newick.{times}
+use Rattle.newick_grammar.specs.Newick.{timesIn, EachOnce, Stands, IsTree, GoesOn, NoTree, opens}
+use Rattle.newick_grammar.specs.Newick.{comma}
+use Rattle.newick_grammar.specs.Newick.{closes, semicolon}
+use Rattle.newick_grammar.specs.Numbers.{groups}
+use Rattle.newick_grammar.proofs.Labels.{two-total, three-total}
 use Rattle.newick_members.specs.Between.{mark, Fits, Next, Over, Slot, here, Past, Closing}
 use Rattle.newick_members.proofs.Members.{below, mark-within, mark-size, fits-left, fits-right}
 use Rattle.newick_members.proofs.Members.{fits-group, fits-loose, fits-each, each-fits, fill}

@@ -13,10 +13,11 @@ use Rattle.taxa.specs.Most.{most}
 use Rattle.taxa.specs.Sets.{size}
 use Rattle.taxa.proofs.Sizes.{size-none, size-le}
 use Rattle.tree.specs.Tree.{rows}
-use Rattle.grammar.specs.Newick.{Outermost, two, three, NoTree, opens, comma, closes}
-use Rattle.grammar.specs.Numbers.{groups, node, join, withRows, blank, smaller, larger, table}
-use Rattle.grammar.proofs.Writes.{length-join, blank-length}
-use Rattle.grammar.proofs.Valid.{node-lt, length-rows, last-larger}
+use Rattle.newick_grammar.specs.Newick.{Outermost, two, three, NoTree, opens, comma, closes}
+use Rattle.newick_grammar.specs.Numbers.{groups, node, join, withRows, blank, smaller, larger}
+use Rattle.newick_grammar.specs.Numbers.{table}
+use Rattle.newick_grammar.proofs.Writes.{length-join, blank-length}
+use Rattle.newick_grammar.proofs.Valid.{node-lt, length-rows, last-larger}
 use Rattle.newick_members.specs.declared.Cursor.{Cursor}
 use Rattle.newick_outer.specs.declared.Parsed.{Parsed}
 use Rattle.newick_outer.specs.declared.Parsed.the-variants as parsed

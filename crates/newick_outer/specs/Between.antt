@@ -7,8 +7,8 @@ use mathlib.Core.Bool.{true, false}
 use mathlib.Core.List.{List}
 use lib.ListN.{length}
 use Rattle.taxa.specs.Most.{most}
-use Rattle.grammar.specs.Newick.{Member, Outermost, Stands, NoTree, opens, comma, semicolon}
-use Rattle.grammar.specs.Numbers.{groups, node, withRows, blank, table}
+use Rattle.newick_grammar.specs.Newick.{Member, Outermost, Stands, NoTree, opens, comma, semicolon}
+use Rattle.newick_grammar.specs.Numbers.{groups, node, withRows, blank, table}
 use Rattle.newick_members.specs.Between.{mark, here, Past}
 use Rattle.newick_members.specs.declared.Cursor.{Cursor}
 use Rattle.newick_outer.specs.declared.Parsed.{Parsed}

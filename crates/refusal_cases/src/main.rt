@@ -11,14 +11,14 @@ use case_lists::all_marks;
 use case_lists::bytes;
 use case_lists::numbers;
 use case_moves::four;
-use fits::Move;
+use case_prints::kept;
+use case_prints::line;
+use case_prints::put;
+use case_prints::tell;
 use judge::Judged;
 use judge::Moved;
 use judge::Verdict;
-use prints::kept;
-use prints::line;
-use prints::put;
-use prints::tell;
+use move_plan::Move;
 
 // The number that a move applied gives, or 0.
 fn applied(n: usize, t: &mut [u8], m: Move) -> u64 {

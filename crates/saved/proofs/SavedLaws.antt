@@ -21,8 +21,8 @@ use Rattle.tree.specs.Tree.{Valid}
 use Rattle.tree.specs.Splits.{dist, distancesBy, distances, unchanged}
 use Rattle.tree.specs.Refusals.{each}
 use Rattle.tree.proofs.FewTaxa.{few-same}
-use Rattle.rules.specs.Zeros.{zeros}
-use Rattle.rules.proofs.Judging.{zeros-le}
+use Rattle.group_rule.specs.Zeros.{zeros}
+use Rattle.group_rule.proofs.Judging.{zeros-le}
 use Rattle.saved.specs.Saved.{fourOrMore, countsAsSaved, savedOf, ofFourOrMore, howManyFewer}
 
 -- ---- one partition

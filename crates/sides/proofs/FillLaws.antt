@@ -21,9 +21,9 @@ use Rattle.tree.proofs.Colourings.{two-sides}
 use Rattle.tree.proofs.RowCounts.{Pair, pair-of, leaf-only}
 use Rattle.tree.proofs.Forks.{fork, node-side, taxa-both, leaf-side}
 use Rattle.tree.proofs.Ends.{EndOf, end-node, row-one}
-use Rattle.near.specs.Between.{Near, OtherTwo}
-use Rattle.near.proofs.NearLaws.{near-others}
-use Rattle.near.proofs.PlaceLaws.{Across, place-0}
+use Rattle.node_rows.specs.Between.{Near, OtherTwo}
+use Rattle.node_rows.proofs.NearLaws.{near-others}
+use Rattle.node_rows.proofs.PlaceLaws.{Across, place-0}
 use Rattle.sides.specs.Between.{At, Filled, Sides}
 use Rattle.sides.proofs.LookLaws.{accepted-rowed}
 

@@ -14,7 +14,7 @@ use Rattle.table.specs.Between.{rowSaid, Rowed}
 use Rattle.table.specs.declared.Checked.{Checked}
 use Rattle.table.proofs.Stages.{said-rowed}
 use Rattle.calls.specs.declared.Refusal.{Refusal}
-use Rattle.near.specs.Between.{Near}
+use Rattle.node_rows.specs.Between.{Near}
 use Rattle.sides.specs.Between.{Sided, Looked, Reached, Found}
 
 module _ (n : ℕ) (t : List ℕ) where

@@ -22,10 +22,10 @@ use Rattle.tree.proofs.Colourings.{FlatAll, one-colour, hangs}
 use Rattle.tree.proofs.Forks.{fork, hang-f, hang-g, node-side, taxa-one}
 use Rattle.tree.proofs.Ends.{EndOf, side-lo, side-hi}
 use Rattle.table.specs.Between.{Rowed}
-use Rattle.near.specs.Between.{Near, OtherTwo}
-use Rattle.near.proofs.PlaceLaws.{Across, place-0, all-one, node-lt, at-taxon, at-inner}
-use Rattle.near.proofs.PlaceLaws.{across-first, across-second, across-zero, across-touch}
-use Rattle.near.proofs.PlaceLaws.{across-back, zero-start}
+use Rattle.node_rows.specs.Between.{Near, OtherTwo}
+use Rattle.node_rows.proofs.PlaceLaws.{Across, place-0, all-one, node-lt, at-taxon, at-inner}
+use Rattle.node_rows.proofs.PlaceLaws.{across-first, across-second, across-zero, across-touch}
+use Rattle.node_rows.proofs.PlaceLaws.{across-back, zero-start}
 use Rattle.sides.specs.Between.{Sides, mark, noted, Walks, Fresh, Told, Walked}
 use Rattle.sides.proofs.FillLaws.{two, union, filled-one, filled-two, all-sides}
 use Rattle.sides.proofs.MarkLaws.{left, left-set, mark-same, mark-other, mark-kept}

@@ -12,7 +12,7 @@ use Rattle.taxa.specs.Sets.{has, less, full, pick}
 use Rattle.tree.specs.Tree.{lo, rows, touches, part, far, fromZero, nodes, every}
 use Rattle.tree.specs.Splits.{side}
 use Rattle.tree.specs.Refusals.{Accepted, treeSaid}
-use Rattle.near.specs.Between.{Near}
+use Rattle.node_rows.specs.Between.{Near}
 use lib.Dec.{eqb}
 use Rattle.calls.specs.Calls.{gives}
 use Rattle.table.specs.Between.{Rowed}

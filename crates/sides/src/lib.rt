@@ -6,7 +6,7 @@ ghost use lib.ListN.{length, set};
 ghost use Rattle.taxa.specs.Most.{most};
 ghost use Rattle.tree.specs.Tree.{rows, nodes, every};
 ghost use Rattle.table.specs.Between.{HasRow, Rowed};
-ghost use Rattle.near.specs.Between.{noRows, Near};
+ghost use Rattle.node_rows.specs.Between.{noRows, Near};
 ghost use Rattle.sides.specs.Between.{mark, noted, Walks, Walked, Reached, Found};
 ghost use Rattle.sides.specs.Promises.{Checks};
 use calls::Refusal;
@@ -37,7 +37,7 @@ fn note(n: usize, t: &[u8], sides: &mut [u64; ROWS], e: usize, v: usize, s: u64)
 fn walk(
     n: usize,
     t: &[u8],
-    near: &[u8; near::PLACES],
+    near: &[u8; node_rows::PLACES],
     marks: &mut [u8; NODES],
     sides: &mut [u64; ROWS],
     e: usize,
@@ -58,7 +58,7 @@ fn walk(
         note(n, t, sides, e, v, s);
         return s;
     }
-    let o = near::others(near, e, v);
+    let o = node_rows::others(near, e, v);
     let f = o.f;
     let g = o.g;
     let a = table::far(t, f, v);
@@ -87,14 +87,14 @@ fn all_marked(n: usize, marks: &[u8; NODES]) -> bool
 
 // Whether every node can be reached from node 0. Where it can, the side of
 // every row is stored.
-fn all_reached(n: usize, t: &[u8], near: &[u8; near::PLACES], sides: &mut [u64; ROWS]) -> bool
+fn all_reached(n: usize, t: &[u8], near: &[u8; node_rows::PLACES], sides: &mut [u64; ROWS]) -> bool
     requires { let t = now t in
         ⌜ (Rowed n t) × (Near n t (now near)) × (length (now sides) ≡ rows most) ⌝ }
     ensures { λ b. ⌜ Reached n (now (t .entry)) b (now (sides .exit)) ⌝ }
 {
     let mut marks = [0u8; NODES];
     marks[0] = 1;
-    let e = near::row_at(near, 0, 0);
+    let e = node_rows::row_at(near, 0, 0);
     let v = table::far(t, e, 0);
     walk(n, t, near, &mut marks, sides, e, v);
     all_marked(n, &marks)
@@ -102,7 +102,12 @@ fn all_reached(n: usize, t: &[u8], near: &[u8; near::PLACES], sides: &mut [u64; 
 
 // The check of a tree; the rows at each node and the side of every row of one
 // are left in the lent arrays.
-pub fn look(n: usize, t: &[u8], near: &mut [u8; near::PLACES], sides: &mut [u64; ROWS]) -> Checked
+pub fn look(
+    n: usize,
+    t: &[u8],
+    near: &mut [u8; node_rows::PLACES],
+    sides: &mut [u64; ROWS],
+) -> Checked
     requires { ⌜ (now near ≡ noRows) × (length (now sides) ≡ rows most) ⌝ }
     ensures { λ r. ⌜ Found n (now (t .entry)) r (now (near .exit)) (now (sides .exit)) ⌝ }
 {
@@ -110,7 +115,7 @@ pub fn look(n: usize, t: &[u8], near: &mut [u8; near::PLACES], sides: &mut [u64;
     match answer {
         Checked::Refused(r) => Checked::Refused(r),
         Checked::Tree => {
-            near::hook_rows(n, t, near);
+            node_rows::hook_rows(n, t, near);
             if all_reached(n, t, near, sides) {
                 return Checked::Tree;
             }
@@ -123,7 +128,7 @@ pub fn look(n: usize, t: &[u8], near: &mut [u8; near::PLACES], sides: &mut [u64;
 pub fn check_tree(n: usize, t: &[u8]) -> Checked
     ensures { λ r. ⌜ Checks n (now (t .entry)) r ⌝ }
 {
-    let mut near = [near::FREE; near::PLACES];
+    let mut near = [node_rows::FREE; node_rows::PLACES];
     let mut sides = [0u64; ROWS];
     look(n, t, &mut near, &mut sides)
 }

@@ -8,7 +8,7 @@ ghost use Rattle.taxa.specs.Sets.{lowest};
 ghost use Rattle.tree.specs.Splits as spec;
 ghost use Rattle.sides.specs.Between.{Sided};
 ghost use Rattle.calls.specs.Between.{Wrote};
-ghost use Rattle.lists.specs.Between.{RoomFor};
+ghost use Rattle.ascending.specs.Between.{RoomFor};
 ghost use Rattle.split_lists.specs.Between.{added, rowSplits};
 
 // The number of the split over y that s makes; low is the lowest taxon of y.
@@ -40,7 +40,7 @@ fn add(out: &mut [u64], len: usize, x: u64) -> usize
     if x == 0 {
         return len;
     }
-    lists::insert(out, len, x)
+    ascending::insert(out, len, x)
 }
 
 // Lists the splits over y of the rows whose sides are given; how many there

@@ -56,7 +56,7 @@ fn induced_tree(n: usize, t: &[u8], s: &[u64; sides::ROWS], y: u64, out: &mut [u
 pub fn induced_splits(n: usize, t: &[u8], y: u64, out: &mut [u64]) -> Induced
     ensures { λ r. ⌜ Induces n (now (t .entry)) y (now (out .entry)) r (now (out .exit)) ⌝ }
 {
-    let mut near = [near::FREE; near::PLACES];
+    let mut near = [node_rows::FREE; node_rows::PLACES];
     let mut s = [0u64; sides::ROWS];
     let answer = sides::look(n, t, &mut near, &mut s);
     match answer {
@@ -70,9 +70,9 @@ fn compare_lists(a: &[u64], b: &[u64]) -> Compared
     requires { ⌜ (SplitList (now a)) × (SplitList (now b)) ⌝ }
     ensures { λ r. ⌜ compareSays r ≡ gives (listsApart (now (a .entry)) (now (b .entry))) ⌝ }
 {
-    let lost = lists::count_lacking(a, b);
-    let gained = lists::count_lacking(b, a);
-    let first = lists::first_lacking(a, b);
+    let lost = ascending::count_lacking(a, b);
+    let gained = ascending::count_lacking(b, a);
+    let first = ascending::first_lacking(a, b);
     Compared::Apart(lost + gained, first)
 }
 
@@ -101,7 +101,7 @@ fn compare_second(n: usize, t: &[u8], a: &[u64; sides::ROWS], u: &[u8], y: u64) 
     requires { ⌜ Sided n (now t) (now a) ⌝ }
     ensures { λ r. ⌜ Compares n (now (t .entry)) (now (u .entry)) y r ⌝ }
 {
-    let mut near = [near::FREE; near::PLACES];
+    let mut near = [node_rows::FREE; node_rows::PLACES];
     let mut b = [0u64; sides::ROWS];
     let answer = sides::look(n, u, &mut near, &mut b);
     match answer {
@@ -120,7 +120,7 @@ fn compare_second(n: usize, t: &[u8], a: &[u64; sides::ROWS], u: &[u8], y: u64) 
 pub fn compare(n: usize, t: &[u8], u: &[u8], y: u64) -> Compared
     ensures { λ r. ⌜ Compares n (now (t .entry)) (now (u .entry)) y r ⌝ }
 {
-    let mut near = [near::FREE; near::PLACES];
+    let mut near = [node_rows::FREE; node_rows::PLACES];
     let mut s = [0u64; sides::ROWS];
     let answer = sides::look(n, t, &mut near, &mut s);
     match answer {

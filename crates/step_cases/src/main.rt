@@ -8,13 +8,13 @@ use case_lines::word;
 use case_lists::LONG;
 use case_lists::bytes;
 use case_lists::marked;
-use jobs::State;
-use jobs::Stepped;
-use prints::kept;
-use prints::line;
-use prints::number;
-use prints::put;
-use prints::say;
+use case_prints::kept;
+use case_prints::line;
+use case_prints::number;
+use case_prints::put;
+use case_prints::say;
+use job_steps::State;
+use job_steps::Stepped;
 
 // A byte that the lent memory holds before a step, and no table of six taxa.
 const MARK: u8 = 200;
@@ -63,8 +63,8 @@ fn lend(words: &[u8], job: &[u8], table: &mut [u8]) {
 // A case `step ROOM BYTES TITLE`.
 fn on_job(l: &[u8], job: &[u8]) {
     let room = size(l, 1);
-    let mut table = [MARK; jobs::TABLE];
-    if room <= jobs::TABLE {
+    let mut table = [MARK; job_steps::TABLE];
+    if room <= job_steps::TABLE {
         lend(title(l, 3), job, &mut table[..room]);
     }
 }

@@ -16,7 +16,7 @@ fn call(input: &[u8], l: &[u8], t: &[u8]) {
         b't' => trees::tree(l, n, t),
         b's' => trees::splits(l, n, t),
         b'c' => trees::compare(input, l, n, t),
-        _ => prints::line(b"no such call"),
+        _ => case_prints::line(b"no such call"),
     }
 }
 

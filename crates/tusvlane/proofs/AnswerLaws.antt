@@ -4,9 +4,9 @@ use Prim.Native.Nat.{ℕ}
 use Rattle.calls.specs.declared.Refusal.{Refusal}
 use Rattle.calls.specs.Refusals.{numberOf}
 use Rattle.calls.specs.Calls.{gives, refusesAt}
-use Rattle.jobs.specs.Steps.{ended}
-use Rattle.jobs.specs.Runs.{first}
-use Rattle.jobs.specs.declared.State.{State}
+use Rattle.job_steps.specs.Steps.{ended}
+use Rattle.job_steps.specs.Runs.{first}
+use Rattle.job_steps.specs.declared.State.{State}
 use Rattle.tusvlane.specs.declared.Placed.{Placed}
 use Rattle.tusvlane.specs.Answers.{stepAnswerOf}
 

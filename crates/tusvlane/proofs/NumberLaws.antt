@@ -17,16 +17,17 @@ use Rattle.tree.specs.Refusals.{partitionsChecks, roomChecks, treeSaid}
 use Rattle.moves.specs.Moves.{Move, moved, moveChecks}
 use Rattle.moves.specs.Verdicts.{movedSaid, judgedSaid, judgedOneSaid}
 use Rattle.splits.specs.Promises.{treesApart, inducedSaid, comparedSaid}
-use Rattle.listing.specs.Listing.{linesOf, linesSaid}
+use Rattle.move_listing.specs.Listing.{linesOf, linesSaid}
 use Rattle.fields.specs.Fields.{tagAt, statedAt, contentAt, numberIn, moveIn, allowed}
 use Rattle.fields.specs.Fields.{headed, complete, lengthChecks}
-use Rattle.jobs.specs.Job.{Known, Fielded, next, over, Outcome, after}
-use Rattle.jobs.specs.Job.{withTaxa, putStep, withPartition, withMove}
-use Rattle.jobs.specs.Job.{taxaStep, tableStep, partitionStep, moveStep, taggedStepOf, taggedStep}
-use Rattle.jobs.specs.Job.{seenSoFar, fieldOf, field, longest}
-use Rattle.jobs.specs.Steps.{Lent, knownOf, stateChecks, hasRoom, roomFor, fitting, stepped}
-use Rattle.jobs.specs.declared.State.{State}
-use Rattle.reader.specs.Promises.{Reads, of-count, of-text, of-room, of-tree}
+use Rattle.job_steps.specs.Job.{Known, Fielded, next, over, Outcome, after}
+use Rattle.job_steps.specs.Job.{withTaxa, putStep, withPartition, withMove}
+use Rattle.job_steps.specs.Job.{taxaStep, tableStep, partitionStep, moveStep, taggedStepOf}
+use Rattle.job_steps.specs.Job.{taggedStep}
+use Rattle.job_steps.specs.Job.{seenSoFar, fieldOf, field, longest}
+use Rattle.job_steps.specs.Steps.{Lent, knownOf, stateChecks, hasRoom, roomFor, fitting, stepped}
+use Rattle.job_steps.specs.declared.State.{State}
+use Rattle.newick_reader.specs.Promises.{Reads, of-count, of-text, of-room, of-tree}
 use Rattle.tusvlane.specs.Numbers.{checkNumbers, inducedNumbers, compareNumbers, applyNumbers}
 use Rattle.tusvlane.specs.Numbers.{verdictNumbers, judgeNumbers, readNumbers, stepNumbers}
 

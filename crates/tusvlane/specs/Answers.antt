@@ -3,9 +3,9 @@
 -- none.
 use Prim.Native.Nat.{ℕ}
 use Rattle.calls.specs.Calls.{Said, codeOf, placeOf, givenOr, valueOf}
-use Rattle.jobs.specs.Steps.{Told, told, ended}
-use Rattle.jobs.specs.Runs.{first}
-use Rattle.jobs.specs.declared.State.{State}
+use Rattle.job_steps.specs.Steps.{Told, told, ended}
+use Rattle.job_steps.specs.Runs.{first}
+use Rattle.job_steps.specs.declared.State.{State}
 use Rattle.tusvlane.specs.declared.Answer.{Answer}
 use Rattle.tusvlane.specs.declared.Comparison.{Comparison}
 use Rattle.tusvlane.specs.declared.Placed.{Placed}

@@ -9,11 +9,11 @@ use Rattle.tree.specs.Refusals.{treeSaid}
 use Rattle.moves.specs.Moves.{Move}
 use Rattle.moves.specs.Verdicts.{movedSaid, judgedSaid, judgedOneSaid}
 use Rattle.splits.specs.Promises.{inducedSaid, comparedSaid}
-use Rattle.rules.specs.Zeros.{zeros}
-use Rattle.listing.specs.Listing.{linesSaid, Page, placeAfter, movedWith}
-use Rattle.reader.specs.Promises.{Reads}
-use Rattle.jobs.specs.Steps.{Lent, stepped, toldOf, lentBy}
-use Rattle.jobs.specs.declared.State.{State}
+use Rattle.group_rule.specs.Zeros.{zeros}
+use Rattle.move_listing.specs.Listing.{linesSaid, Page, placeAfter, movedWith}
+use Rattle.newick_reader.specs.Promises.{Reads}
+use Rattle.job_steps.specs.Steps.{Lent, stepped, toldOf, lentBy}
+use Rattle.job_steps.specs.declared.State.{State}
 use Rattle.tusvlane.specs.declared.Answer.{Answer}
 use Rattle.tusvlane.specs.declared.Comparison.{Comparison}
 use Rattle.tusvlane.specs.declared.Placed.{Placed}

@@ -2,22 +2,22 @@
 // Each gives what the call beneath gives, with the refusal as its number.
 ghost use mathlib.Core.Path.{_≡_};
 ghost use Rattle.calls.specs.Calls.{refuses};
-ghost use Rattle.fits.specs.Entries.{moveOf};
-ghost use Rattle.listing.specs.Listing.{page};
-ghost use Rattle.jobs.specs.Runs as runs;
-ghost use Rattle.jobs.specs.Steps.{lending};
+ghost use Rattle.move_plan.specs.Entries.{moveOf};
+ghost use Rattle.move_listing.specs.Listing.{page};
+ghost use Rattle.job_steps.specs.Runs as runs;
+ghost use Rattle.job_steps.specs.Steps.{lending};
 ghost use Rattle.tusvlane.specs.Answers.{answerOf};
 ghost use Rattle.tusvlane.specs.Promises.{Checks, Induces, Compares, Applies};
 ghost use Rattle.tusvlane.specs.Promises.{Judges, JudgesOne, Lists, Plants, Steps};
 use calls::Refusal;
-use fits::Move;
-use jobs::State;
-use jobs::Stepped;
+use job_steps::State;
+use job_steps::Stepped;
 use judge::Judged;
 use judge::Moved;
 use judge::Verdict;
-use listing::Lines;
-use reader::Reading;
+use move_listing::Lines;
+use move_plan::Move;
+use newick_reader::Reading;
 use splits::Compared;
 use splits::Induced;
 use table::Checked;
@@ -187,7 +187,7 @@ pub extern "C" fn tusvlane_list_move(
         let after = page (now (table .exit)) (now (out .exit)) in
         ⌜ Lists n (now (partitions .entry)) (moveOf m) number place before r after ⌝ }
 {
-    match listing::list_move(n, table, partitions, m, number, out, place) {
+    match move_listing::list_move(n, table, partitions, m, number, out, place) {
         Lines::Refused(r) => refused(r),
         Lines::To(e) => Answer {
             refusal: 0,
@@ -202,7 +202,7 @@ pub extern "C" fn tusvlane_list_move(
 pub extern "C" fn tusvlane_read_newick(n: usize, text: &[u8], out: &mut [u8]) -> Placed
     ensures { λ r. ⌜ Plants n (now (text .entry)) (now (out .entry)) r (now (out .exit)) ⌝ }
 {
-    match reader::read_newick(n, text, out) {
+    match newick_reader::read_newick(n, text, out) {
         Reading::Table => Placed {
             refusal: 0,
             place: 0,
@@ -223,7 +223,7 @@ pub extern "C" fn tusvlane_read_newick(n: usize, text: &[u8], out: &mut [u8]) ->
 pub extern "C" fn tusvlane_start() -> State
     ensures { λ s. ⌜ s ≡ runs.first ⌝ }
 {
-    jobs::start()
+    job_steps::start()
 }
 
 // The step over one field of a job, from the state the last step gave.
@@ -253,14 +253,14 @@ pub extern "C" fn tusvlane_step(
             ended: 1,
             place: 0,
             wrote: 0,
-            next: jobs::start(),
+            next: job_steps::start(),
         },
         Stepped::Refused { why, place } => StepAnswer {
             refusal: calls::number(why) as u64,
             ended: 0,
             place,
             wrote: 0,
-            next: jobs::start(),
+            next: job_steps::start(),
         },
     }
 }

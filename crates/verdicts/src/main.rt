@@ -7,11 +7,11 @@ use libc::STDIN_FILENO;
 fn main() {
     let mut input = io::large_buffer();
     let got = io::read_full(STDIN_FILENO, &mut input);
-    if !inputs::whole(got) {
+    if !whole_input::whole(got) {
         io::write_all(STDERR_FILENO, b"the job could not be read\n");
         return;
     }
-    if !writer::list(&input[..got]) {
+    if !listing_writer::list(&input[..got]) {
         io::write_all(STDERR_FILENO, b"the listing could not be written\n");
     }
 }

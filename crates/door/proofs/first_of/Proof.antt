@@ -1,8 +1,8 @@
 -- `door::first_of` meets its contract. Assumes nothing.
 use mathlib.Core.Path.{sym, ap}
 use Rattle.calls.specs.Calls.{thenSaid}
-use Rattle.fits.specs.Between.{fittedSays, entrySays}
-use Rattle.fits.specs.declared.Fitted.{Fitted}
+use Rattle.move_plan.specs.Between.{fittedSays, entrySays}
+use Rattle.move_plan.specs.declared.Fitted.{Fitted}
 use borrow.Author.Needs.{needs}
 use Rattle.door.proofs.first_of.Statement.{statement}
 use Rattle.door.proofs.first_of.Tie as tie

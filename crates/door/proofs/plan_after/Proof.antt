@@ -2,7 +2,7 @@
 use mathlib.Core.Path.{ap, _∙_}
 use Rattle.calls.specs.Calls.{Said, thenSaid}
 use Rattle.moves.specs.declared.Plan.{Plan}
-use Rattle.fits.specs.Between.{fittedSays}
+use Rattle.move_plan.specs.Between.{fittedSays}
 use borrow.Author.Needs.{needs}
 use Rattle.door.proofs.plan_after.Statement.{statement}
 use Rattle.door.proofs.plan_after.Tie as tie

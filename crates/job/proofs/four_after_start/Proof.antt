@@ -1,5 +1,5 @@
 -- `job::four_after_start` meets its contract. Assumes nothing.
-use Rattle.jobs.proofs.StateLaws.{four-first, four-later}
+use Rattle.job_steps.proofs.StateLaws.{four-first, four-later}
 use Rattle.job.proofs.four_after_start.Statement.{statement}
 use Rattle.job.proofs.four_after_start.Tie as tie
 

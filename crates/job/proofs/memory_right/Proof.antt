@@ -1,5 +1,5 @@
 -- `job::memory_right` meets its contract. Assumes nothing.
-use Rattle.jobs.proofs.StateLaws.{short-parts, no-table, some-table}
+use Rattle.job_steps.proofs.StateLaws.{short-parts, no-table, some-table}
 use Rattle.job.proofs.memory_right.Statement.{statement}
 use Rattle.job.proofs.memory_right.Tie as tie
 

@@ -2,8 +2,8 @@
 use mathlib.Core.Path.{ap}
 use Rattle.calls.proofs.CallLaws.{call-is}
 use Rattle.fields.specs.Fields.{tagAt}
-use Rattle.jobs.specs.Steps.{lending, knownOf, fitting}
-use Rattle.jobs.proofs.StepLaws.{not-first, not-second}
+use Rattle.job_steps.specs.Steps.{lending, knownOf, fitting}
+use Rattle.job_steps.proofs.StepLaws.{not-first, not-second}
 use Rattle.job.proofs.FieldSteps.{field-1, field-2, field-3, field-4}
 use Rattle.job.proofs.FieldSteps.{taxa-gives, table-gives, partition-gives, far-offset}
 use borrow.Author.Needs.{needs}

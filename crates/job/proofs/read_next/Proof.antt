@@ -3,9 +3,9 @@ use mathlib.Core.Path.{sym, _∙_}
 use borrow.Author.Tests.{not-true, not-false}
 use Rattle.calls.proofs.CallLaws.{call-is, call-refusesAt}
 use Rattle.calls.specs.declared.Refusal.{Refusal}
-use Rattle.jobs.specs.Steps.{lending}
-use Rattle.jobs.proofs.StepLaws.{gives-refused}
-use Rattle.jobs.proofs.StateLaws.{parted-of}
+use Rattle.job_steps.specs.Steps.{lending}
+use Rattle.job_steps.proofs.StepLaws.{gives-refused}
+use Rattle.job_steps.proofs.StateLaws.{parted-of}
 use Rattle.job.proofs.FieldSteps.{end-gives, tag-16, tag-12, tag-next}
 use borrow.Author.Needs.{needs}
 use Rattle.job.proofs.read_next.Statement.{statement}

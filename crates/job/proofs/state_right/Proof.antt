@@ -2,9 +2,9 @@
 use mathlib.Core.Path.{_∙_, sym}
 use mathlib.Core.List.{[]}
 use borrow.Author.Tests.{not-true, not-false}
-use Rattle.jobs.specs.Steps.{lending}
-use Rattle.jobs.proofs.StateLaws.{many-taxa, few-taxa, short-memory, no-offset, many-moves}
-use Rattle.jobs.proofs.StateLaws.{is-right}
+use Rattle.job_steps.specs.Steps.{lending}
+use Rattle.job_steps.proofs.StateLaws.{many-taxa, few-taxa, short-memory, no-offset, many-moves}
+use Rattle.job_steps.proofs.StateLaws.{is-right}
 use borrow.Author.Needs.{needs}
 use Rattle.job.proofs.state_right.Statement.{statement}
 use Rattle.job.proofs.state_right.Tie as tie

@@ -2,9 +2,9 @@
 use mathlib.Core.Path.{sym, ap, _∙_}
 use Rattle.calls.proofs.CallLaws.{call-is, call-refusesAt}
 use Rattle.calls.specs.declared.Refusal.{Refusal}
-use Rattle.fits.specs.Between.{fittedSays}
-use Rattle.jobs.specs.Steps.{lending}
-use Rattle.jobs.proofs.StateLaws.{held-of, step-13, step-refused, step-next}
+use Rattle.move_plan.specs.Between.{fittedSays}
+use Rattle.job_steps.specs.Steps.{lending}
+use Rattle.job_steps.proofs.StateLaws.{held-of, step-13, step-refused, step-next}
 use borrow.Author.Needs.{needs}
 use Rattle.job.proofs.step.Statement.{statement}
 use Rattle.job.proofs.step.Tie as tie

@@ -4,10 +4,10 @@ use native.Mathlib.Omega.{arith}
 use borrow.Author.Tests.{not-true, not-false}
 use Rattle.calls.proofs.CallLaws.{call-refusesAt}
 use Rattle.calls.specs.declared.Refusal.{Refusal}
-use Rattle.fits.specs.Entries.{moveOf}
-use Rattle.jobs.specs.Steps.{lending}
+use Rattle.move_plan.specs.Entries.{moveOf}
+use Rattle.job_steps.specs.Steps.{lending}
 use Rattle.job_reads.proofs.ReadLaws.{reaches}
-use Rattle.jobs.proofs.StepLaws.{move-12, refused-there, done-there, table-part, parts-held}
+use Rattle.job_steps.proofs.StepLaws.{move-12, refused-there, done-there, table-part, parts-held}
 use borrow.Author.Needs.{needs}
 use Rattle.job_reads.proofs.read_move.Statement.{statement}
 use Rattle.job_reads.proofs.read_move.Tie as tie

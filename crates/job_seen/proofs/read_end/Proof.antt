@@ -1,7 +1,7 @@
 -- `job_seen::read_end` meets its contract. Assumes nothing.
 use mathlib.Core.Path.{sym, ap, _∙_}
 use borrow.Author.Tests.{not-true, not-false}
-use Rattle.jobs.specs.Steps.{toldOf}
+use Rattle.job_steps.specs.Steps.{toldOf}
 use Rattle.job_seen.proofs.SeenLaws.{end-12, end-16, end-over}
 use borrow.Author.Needs.{needs}
 use Rattle.job_seen.proofs.read_end.Statement.{statement}

@@ -3,8 +3,8 @@ use mathlib.Core.Path.{sym, ap, _∙_}
 use mathlib.Core.Bool.{Bool, _||_}
 use mathlib.Core.List.{[]}
 use borrow.Author.Tests.{eq-eqb, ne-eqb}
-use Rattle.jobs.specs.Job.{seenSoFar}
-use Rattle.jobs.specs.Steps.{lending, knownOf}
+use Rattle.job_steps.specs.Job.{seenSoFar}
+use Rattle.job_steps.specs.Steps.{lending, knownOf}
 use Rattle.job_seen.proofs.seen_before.Statement.{statement}
 use Rattle.job_seen.proofs.seen_before.Tie as tie
 

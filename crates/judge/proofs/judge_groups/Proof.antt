@@ -2,7 +2,7 @@
 use Prim.Native.Nat.{ℕ}
 use lib.ListN.{length-replicate}
 use Rattle.calls.proofs.StartLaws.{wrote-part, wrote-end}
-use Rattle.walks.specs.Between.{room}
+use Rattle.move_groups.specs.Between.{room}
 use Rattle.judge.proofs.GroupLaws.{first-asked, second-asked, listed-few, listed-told}
 use borrow.Author.Needs.{needs}
 use Rattle.judge.proofs.judge_groups.Statement.{statement}

@@ -3,7 +3,7 @@ use mathlib.Core.Path.{_∙_}
 use Prim.Native.Nat.{ℕ}
 use lib.ListN.{length-replicate}
 use Rattle.calls.proofs.StartLaws.{wrote-part, wrote-end}
-use Rattle.walks.specs.Between.{room}
+use Rattle.move_groups.specs.Between.{room}
 use Rattle.judge.proofs.GroupLaws.{first-asked, second-asked, listed-few, listed-dist}
 use Rattle.judge.proofs.one_groups.Statement.{statement}
 use Rattle.judge.proofs.one_groups.Tie as tie

@@ -1,6 +1,6 @@
 -- `move_lines::lines_width` meets its contract. Assumes nothing.
 use native.Mathlib.Omega.{arith}
-use Rattle.rules.proofs.Judging.{zeros-le}
+use Rattle.group_rule.proofs.Judging.{zeros-le}
 use Rattle.move_lines.proofs.LineLaws.{lines-length}
 use borrow.Author.Needs.{needs}
 use Rattle.move_lines.proofs.lines_width.Statement.{statement}

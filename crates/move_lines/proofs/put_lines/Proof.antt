@@ -1,8 +1,8 @@
 -- `move_lines::put_lines` meets its contract. Assumes nothing.
 use native.Mathlib.Omega.{arith}
 use lib.ListN.{length}
-use Rattle.rules.proofs.Judging.{zeros-le}
-use Rattle.text.proofs.Widths.{saved-few}
+use Rattle.group_rule.proofs.Judging.{zeros-le}
+use Rattle.lines.proofs.Widths.{saved-few}
 use Rattle.move_lines.proofs.LineLaws.{last-after, last-room, last-part, last-then}
 use borrow.Author.Needs.{needs}
 use Rattle.move_lines.proofs.put_lines.Statement.{statement}

@@ -1,6 +1,6 @@
 -- `move_lines::put_verdicts` meets its contract. Assumes nothing.
 use Prim.Native.Nat.{ℕ, _+_, _-_, _*_, _^_, _≤_, _<_}
-use Rattle.text.proofs.Widths.{verdict-few}
+use Rattle.lines.proofs.Widths.{verdict-few}
 use mathlib.Core.Path.{_≡_, refl, ap, subst}
 use mathlib.Core.List.{List}
 use native.Mathlib.Omega.{arith}

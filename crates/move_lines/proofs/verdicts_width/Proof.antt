@@ -3,8 +3,8 @@ use mathlib.Core.Path.{_≡_, sym, ap, _∙_}
 use Prim.Native.Nat.{_+_, _-_, _*_, _≤_}
 use native.Mathlib.Omega.{arith}
 use lib.ListN.{length, take, getD, length-append}
-use Rattle.text.specs.Lines.{verdictLine}
-use Rattle.text.proofs.Widths.{verdict-few}
+use Rattle.lines.specs.Lines.{verdictLine}
+use Rattle.lines.proofs.Widths.{verdict-few}
 use Rattle.move_lines.specs.MoveLines.{verdictLines}
 use Rattle.move_lines.proofs.LineLaws.{verdicts-none, verdicts-next, verdicts-end}
 use borrow.Author.Needs.{needs}

@@ -7,7 +7,7 @@ use lib.ListN.{length}
 use borrow.Author.Tests.{not-true, not-false}
 use Rattle.taxa.specs.Sets.{size}
 use Rattle.taxa.proofs.Sizes.{size-le}
-use Rattle.grammar.specs.Newick.{opens, comma}
+use Rattle.newick_grammar.specs.Newick.{opens, comma}
 use Rattle.newick_members.specs.Between.{here, ahead}
 use Rattle.newick_members.proofs.Places.{here-in}
 use Rattle.newick_members.proofs.StageLaws.{bad-again, read-is, ready-at, got-taxon}

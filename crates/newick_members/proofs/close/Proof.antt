@@ -2,8 +2,8 @@
 use mathlib.Core.Path.{_≡_, refl, sym, ap, _∙_}
 use mathlib.Core.Bool.{true}
 use borrow.Author.Tests.{not-true, not-false}
-use Rattle.grammar.specs.Numbers.{join}
-use Rattle.grammar.specs.Newick.{closes}
+use Rattle.newick_grammar.specs.Numbers.{join}
+use Rattle.newick_grammar.specs.Newick.{closes}
 use Rattle.newick_members.specs.Between.{here}
 use Rattle.newick_members.proofs.Places.{here-in}
 use Rattle.newick_members.proofs.StageLaws.{row-first, row-second}

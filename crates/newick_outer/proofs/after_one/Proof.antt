@@ -2,7 +2,7 @@
 use mathlib.Core.Path.{_≡_, sym, _∙_}
 use mathlib.Core.Bool.{true}
 use borrow.Author.Tests.{not-true, not-false}
-use Rattle.grammar.specs.Newick.{comma}
+use Rattle.newick_grammar.specs.Newick.{comma}
 use Rattle.newick_members.specs.Between.{here, ahead}
 use Rattle.newick_members.proofs.Places.{here-in}
 use Rattle.newick_members.proofs.StageLaws.{bad-is, read-is, ready-at}

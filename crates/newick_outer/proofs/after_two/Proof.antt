@@ -3,7 +3,7 @@ use mathlib.Core.Path.{_≡_, sym, _∙_}
 use mathlib.Core.Bool.{true}
 use native.Mathlib.Omega.{arith}
 use borrow.Author.Tests.{not-true, not-false}
-use Rattle.grammar.specs.Newick.{closes}
+use Rattle.newick_grammar.specs.Newick.{closes}
 use Rattle.newick_members.specs.Between.{here}
 use Rattle.newick_members.proofs.Places.{here-in}
 use Rattle.taxa.specs.Sets.{size}

@@ -3,7 +3,7 @@ use mathlib.Core.Path.{_≡_, refl, sym, _∙_}
 use mathlib.Core.Bool.{true}
 -- `newick_outer::outermost` meets its contract. Assumes nothing.
 use borrow.Author.Tests.{not-true, not-false}
-use Rattle.grammar.specs.Newick.{opens}
+use Rattle.newick_grammar.specs.Newick.{opens}
 use Rattle.newick_members.specs.Between.{here}
 use Rattle.newick_members.proofs.StageLaws.{bad-is, read-is}
 use Rattle.newick_outer.proofs.OuterLaws.{no-open}

@@ -11,7 +11,7 @@ use borrow.Fn.PlainCycle.{Measures, is, falls, and}
 use Rattle.sides.proofs.walk.Reads as walk
 use Rattle.sides.proofs.walk.Kinds as walk-kinds
 use Rattle.sides.proofs.+walk.Lts-walk as walk-lts
-use Rattle.near.proofs.others.Reads as others-reads
+use Rattle.node_rows.proofs.others.Reads as others-reads
 use Rattle.sides.proofs.note.Reads as note-reads
 use Rattle.table.proofs.far.Reads as far-reads
 use Rattle.taxa.proofs.only.Reads as only-reads

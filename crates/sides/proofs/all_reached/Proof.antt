@@ -1,6 +1,6 @@
 -- `sides::all_reached` meets its contract. Assumes nothing.
 use mathlib.Core.Path.{_∙_}
-use Rattle.near.proofs.PlaceLaws.{across-room}
+use Rattle.node_rows.proofs.PlaceLaws.{across-room}
 use Rattle.sides.proofs.WalkLaws.{zero-row, walks-start, start-reached, start-sides}
 use borrow.Author.Needs.{needs}
 use Rattle.sides.proofs.all_reached.Statement.{statement}

@@ -1,7 +1,7 @@
 -- `tusvlane::tusvlane_list_move` meets its contract. Assumes nothing.
 use mathlib.Core.Path.{refl, ap}
 use Rattle.calls.proofs.CallLaws.{call-as}
-use Rattle.listing.specs.Listing.{linesSays}
+use Rattle.move_listing.specs.Listing.{linesSays}
 use Rattle.tusvlane.specs.Answers.{answerOf}
 use borrow.Author.Needs.{needs}
 use Rattle.tusvlane.proofs.tusvlane_list_move.Statement.{statement}

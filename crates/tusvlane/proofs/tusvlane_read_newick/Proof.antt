@@ -2,7 +2,7 @@
 use mathlib.Core.Path.{refl, ap}
 use Rattle.tusvlane.proofs.AnswerLaws.{placed-as}
 use Rattle.calls.proofs.CallLaws.{callBy-as}
-use Rattle.reader.specs.Promises.{readingSays}
+use Rattle.newick_reader.specs.Promises.{readingSays}
 use Rattle.tusvlane.specs.Answers.{placedOf}
 use borrow.Author.Needs.{needs}
 use Rattle.tusvlane.proofs.tusvlane_read_newick.Statement.{statement}

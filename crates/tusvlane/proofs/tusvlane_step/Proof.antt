@@ -1,7 +1,7 @@
 -- `tusvlane::tusvlane_step` meets its contract. Assumes nothing.
 use mathlib.Core.Path.{refl, ap}
 use Rattle.calls.proofs.CallLaws.{call-as}
-use Rattle.jobs.specs.Steps.{steppedSays}
+use Rattle.job_steps.specs.Steps.{steppedSays}
 use Rattle.tusvlane.specs.Answers.{stepAnswerOf}
 use Rattle.tusvlane.proofs.AnswerLaws.{ended-is, stopped-is}
 use borrow.Author.Needs.{needs}

@@ -4,8 +4,8 @@ use Prim.Native.Nat.{suc, _-_, _≤_}
 use native.Mathlib.Omega.{arith}
 use lib.ListN.{length}
 use lib.Seq.{length-take-le}
-use Rattle.jobs.specs.Steps.{lending}
-use Rattle.jobs.proofs.StepForward.{step-forward}
+use Rattle.job_steps.specs.Steps.{lending}
+use Rattle.job_steps.proofs.StepForward.{step-forward}
 use borrow.Author.Needs.{needs}
 use Rattle.job_cases.proofs.long.count.Statement.{statement}
 use Rattle.job_cases.proofs.long.count.Tie as tie

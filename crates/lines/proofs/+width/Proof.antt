@@ -1,0 +1,64 @@
+-- `lines::width` meets its contract. Assumes nothing.
+use native.Mathlib.Omega.{arith}
+use mathlib.Core.Path.{ap, _∙_}
+use Prim.Native.Nat.{_+_, _/_, ℕ, _<_}
+use Rattle.lines.proofs.Widths.{decimal-one, decimal-more, decimal-few}
+use borrow.Fn.Kinds.{In}
+use borrow.Fn.PlainCycle.{Measures, is, falls, and}
+use Rattle.lines.proofs.width.Reads as width
+use Rattle.lines.proofs.width.Kinds as width-kinds
+use Rattle.lines.proofs.+width.Lts-width as width-lts
+use Rattle.lines.proofs.+width.{statement}
+use Rattle.lines.proofs.+width.Tie.{close}
+
+abbrev μ-width : Measures 0 width-kinds.ps ℕ
+μ-width κs a =
+    a .0
+
+abbrev width-at : ℕ → In 0 width-kinds.ps
+width-at t = and 0 width-kinds.ps (is 0 width-kinds.ps μ-width t) width.Pre
+
+abbrev width-below : ℕ → In 0 width-kinds.ps
+width-below t = and 0 width-kinds.ps (falls 0 width-kinds.ps _<_ μ-width t) width.Pre
+
+width-returns : (t : ℕ) → width-lts.Need-returns (width-below t, width.Post) (width-at t) width.Post
+width-returns t c =
+    decimal-one (c .before .args .n) (c .if1 .taken)
+
+width-width-requires : (t : ℕ)
+    → width-lts.Need-width-requires (width-below t, width.Post) (width-at t) width.Post
+width-width-requires t c κs =
+    (omega (arith, c .if1 .left, c .before .pre .0), tt)
+
+width-add-result : (t : ℕ)
+    → width-lts.Need-add-result (width-below t, width.Post) (width-at t) width.Post
+width-add-result t c =
+    let st = c .before .before in
+    record {
+      fits = omega (
+        arith,
+        c .width .ensures,
+        decimal-few (st .args .n / 10)
+            (omega (arith, st .fits .n .fits)),
+      );
+    }
+
+width-returns-2 : (t : ℕ)
+    → width-lts.Need-returns-2 (width-below t, width.Post) (width-at t) width.Post
+width-returns-2 t c =
+    let at-if1 = c .before in
+    let st = at-if1 .before in
+    ap (λ (k : ℕ). k + 1) (c .width .ensures) ∙ decimal-more (st .args .n) (at-if1 .if1 .left)
+
+pub +width-spec : {M : Type 1} → statement M
++width-spec =
+    close
+    μ-width
+    λ t. width-lts.spec
+    (width-below t, width.Post)
+    (width-at t)
+    width.Post
+    (width-returns t)
+    (width-width-requires t)
+    (width-add-result t)
+    (width-returns-2 t)
