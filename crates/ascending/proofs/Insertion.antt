@@ -17,26 +17,39 @@ use Rattle.calls.specs.Calls.{atStart}
 use Rattle.calls.specs.Between.{Wrote}
 use Rattle.ascending.specs.Between.{lead, gapped}
 
--- ---- the walk to the place, in the first len numbers of o
-module _ (x : ℕ) (o : List ℕ) (len : ℕ) (fits : len ≤ length o) (i : ℕ) where
-  pub lead-end : len ≤ i → lead x (drop i (take len o)) ≡ 0
+-- ---- the walk to the place: of the first len numbers of o, the first i are below x
+pub record Passed (x : ℕ) (o : List ℕ) (len i : ℕ) : Type 0 where
+  pub fits : len ≤ length o
+  pub upto : i ≤ len
+  pub rest : lead x (take len o) ≡ i + lead x (drop i (take len o))
+
+pub passed-none : {x : ℕ} {o : List ℕ} {len : ℕ} → len ≤ length o → Passed x o len 0
+passed-none h = record { fits = h; upto = omega arith; rest = omega arith }
+
+module _ {x : ℕ} {o : List ℕ} {len i : ℕ} (P : Passed x o len i) where
+  pub passed-end : len ≤ i → i ≡ lead x (take len o)
   unfolding lead
-  lead-end h = rw (drop-of-length-le (take len o) {i = i}
-      (omega (arith, length-take-le len o fits)))
+  passed-end h =
+      let l = length-take-le len o (P .fits) in
+      let e : drop i (take len o) ≡ [] = drop-of-length-le (take len o) {i = i} (omega arith) in
+      omega (arith, rw e at (P .rest))
 
   module _ (more : i < len) where
-    rest : drop i (take len o) ≡ getD o i 0 ∷ drop (i + 1) (take len o)
-    rest = rw (add-one, ← getD-take len o i 0 more)
-        (drop-cons (take len o) i 0 (omega (arith, length-take-le len o fits)))
+    next : drop i (take len o) ≡ getD o i 0 ∷ drop (i + 1) (take len o)
+    next = rw (add-one, ← getD-take len o i 0 more)
+        (drop-cons (take len o) i 0 (omega (arith, length-take-le len o (P .fits))))
 
-    pub lead-stop : x ≤ getD o i 0 → lead x (drop i (take len o)) ≡ 0
+    pub passed-stop : x ≤ getD o i 0 → i ≡ lead x (take len o)
     unfolding lead
-    lead-stop h = rw (rest, le-ltb (getD o i 0) x h)
+    passed-stop h = omega (arith, rw (next, le-ltb (getD o i 0) x h) at (P .rest))
 
-    pub lead-more : getD o i 0 < x
-        → lead x (drop i (take len o)) ≡ suc (lead x (drop (i + 1) (take len o)))
+    pub passed-more : getD o i 0 < x → Passed x o len (i + 1)
     unfolding lead
-    lead-more h = rw (rest, lt-ltb (getD o i 0) x h)
+    passed-more h = record {
+      fits = P .fits;
+      upto = omega arith;
+      rest = omega (arith, rw (next, lt-ltb (getD o i 0) x h) at (P .rest));
+    }
 
 lead-le : (x : ℕ) (l : List ℕ) → lead x l ≤ length l
 unfolding lead
@@ -129,17 +142,22 @@ drop-take (suc i) (suc n) [] h = sym (take-nil (suc n - suc i))
 drop-take (suc i) (suc n) (x ∷ l) h = let e : suc n - suc i ≡ n - i = omega arith in
     rw e (drop-take i n l (omega arith))
 
--- ---- the whole: x does not stand at its place i of the first len numbers of o, so that a place is opened for it
+-- ---- the whole: x does not stand at its place i of the first len numbers of o,
+-- so that a place is opened for it
 pub record Opened (x : ℕ) (o : List ℕ) (len i : ℕ) : Type 0 where
   pub low : i ≤ len
   pub room : len < length o
   pub count : len + 1 ≡ length (insert x (take len o))
   pub gives : set (gapped o i len) i x ≡ atStart (insert x (take len o)) o
 
-module _ (x : ℕ) (o : List ℕ) (len : ℕ) (fits : len ≤ length o) (i : ℕ)
-    (place : i ≡ lead x (take len o)) where
+-- i is x's place in the first len numbers of o
+pub record Placed (x : ℕ) (o : List ℕ) (len i : ℕ) : Type 0 where
+  pub fits : len ≤ length o
+  pub place : i ≡ lead x (take len o)
+
+module _ {x : ℕ} {o : List ℕ} {len i : ℕ} (P : Placed x o len i) where
   size : length (take len o) ≡ len
-  size = length-take-le len o fits
+  size = length-take-le len o (P .fits)
 
   within : i ≤ len
   within = omega (arith, size, lead-le x (take len o))
@@ -147,13 +165,12 @@ module _ (x : ℕ) (o : List ℕ) (len : ℕ) (fits : len ≤ length o) (i : ℕ
   pub there : i < len → getD o i 0 ≡ x → Wrote length (insert x (take len o)) o len o
   there h e =
       let q : getD (take len o) (lead x (take len o)) 0 ≡ x =
-      rw (← place) (getD-take len o i 0 h ∙ e) in
+      rw (← P .place) (getD-take len o i 0 h ∙ e) in
       let s : insert x (take len o) ≡ take len o =
       insert-there x (take len o) (omega (arith, size)) q in
       record {
         count = sym (ap length s ∙ size);
-        memory = rw (s, size)
-            (sym (take-append-drop len o));
+        memory = rw (s, size) (sym (take-append-drop len o));
       }
 
   module _ (differ : i < len → getD o i 0 ≡ x → ⊥)
@@ -162,8 +179,8 @@ module _ (x : ℕ) (o : List ℕ) (len : ℕ) (fits : len ≤ length o) (i : ℕ
     inserted =
         insert-new x (take len o)
         (λ h e. differ (omega (arith, size)) (sym (getD-take len o i 0 (omega (arith, size)))
-        ∙ ap (λ (k : ℕ). getD (take len o) k 0) place ∙ e))
-        ∙ rw (← place, take-take i len o within, drop-take i len o within)
+        ∙ ap (λ (k : ℕ). getD (take len o) k 0) (P .place) ∙ e))
+        ∙ rw (← P .place, take-take i len o within, drop-take i len o within)
 
     grows : len + 1 ≡ length (insert x (take len o))
     grows =
@@ -179,10 +196,10 @@ module _ (x : ℕ) (o : List ℕ) (len : ℕ) (fits : len ≤ length o) (i : ℕ
 
     pub opened : Opened x o len i
     unfolding gapped
-    opened = let low : i ≤ len = within in let room : len < length o = omega (arith, grows) in
+    opened = let l : i ≤ len = within in let r : len < length o = omega (arith, grows) in
         record {
-          low = low;
-          room = room;
+          low = l;
+          room = r;
           count = grows;
           gives =
               rw (

@@ -15,35 +15,56 @@ use Rattle.taxa.proofs.Bools.{or-cases, or-right}
 use Rattle.tree.specs.Lists.{mem, lacks, firstLack, Over, Asc}
 use Rattle.tree.proofs.Lists.{lacks-nil}
 
--- ---- the search of x on b
-pub mem-end : (x : ℕ) (b : List ℕ) (j : ℕ) → length b ≤ j → mem x (drop j b) ≡ false
-unfolding mem
-mem-end x b j h = rw (drop-of-length-le b h)
-
-pub mem-here : (x : ℕ) (b : List ℕ) (j : ℕ) → j < length b → getD b j 0 ≡ x
-    → mem x (drop j b) ≡ true
+-- ---- the search of x on b: it is not among the first j numbers
+mem-here : (x : ℕ) (b : List ℕ) (j : ℕ) → j < length b → getD b j 0 ≡ x → mem x (drop j b) ≡ true
 unfolding mem
 mem-here x b j h e = rw (drop-cons b j 0 h, eq-eqb x (getD b j 0) (sym e))
 
-pub mem-later : (x : ℕ) (b : List ℕ) (j : ℕ) → j < length b → (getD b j 0 ≡ x → ⊥)
-    → mem x (drop j b) ≡ mem x (drop (j + 1) b)
-unfolding mem
-mem-later x b j h e = rw (add-one, drop-cons b j 0 h, ne-eqb x (getD b j 0) (λ q. e (sym q)))
+pub record Sought (x : ℕ) (b : List ℕ) (j : ℕ) : Type 0 where
+  pub upto : j ≤ length b
+  pub rest : mem x b ≡ mem x (drop j b)
 
--- ---- the first of a that b lacks
-pub first-end : (a b : List ℕ) (i : ℕ) → length a ≤ i → firstLack (drop i a) b ≡ 0
-unfolding firstLack
-first-end a b i h = rw (drop-of-length-le a h)
+pub sought-none : {x : ℕ} {b : List ℕ} → Sought x b 0
+sought-none = record { upto = omega arith; rest = refl }
 
-pub first-here : (a b : List ℕ) (i : ℕ) → i < length a → mem (getD a i 0) b ≡ false
-    → firstLack (drop i a) b ≡ getD a i 0
-unfolding firstLack
-first-here a b i h e = rw (drop-cons a i 0 h, e)
+module _ {x : ℕ} {b : List ℕ} {j : ℕ} (S : Sought x b j) where
+  pub sought-end : length b ≤ j → mem x b ≡ false
+  unfolding mem
+  sought-end h = S .rest ∙ rw (drop-of-length-le b h)
 
-pub first-later : (a b : List ℕ) (i : ℕ) → i < length a → mem (getD a i 0) b ≡ true
-    → firstLack (drop i a) b ≡ firstLack (drop (i + 1) a) b
-unfolding firstLack
-first-later a b i h e = rw (add-one, drop-cons a i 0 h, e)
+  module _ (h : j < length b) where
+    pub sought-here : getD b j 0 ≡ x → mem x b ≡ true
+    sought-here e = S .rest ∙ mem-here x b j h e
+
+    pub sought-more : (getD b j 0 ≡ x → ⊥) → Sought x b (j + 1)
+    unfolding mem
+    sought-more d = record {
+      upto = omega arith;
+      rest = S .rest ∙ rw (add-one, drop-cons b j 0 h, ne-eqb x (getD b j 0) (λ q. d (sym q)));
+    }
+
+-- ---- the first of a that b lacks: it is not among the first i numbers
+pub record Held (a b : List ℕ) (i : ℕ) : Type 0 where
+  pub upto : i ≤ length a
+  pub rest : firstLack a b ≡ firstLack (drop i a) b
+
+pub held-none : {a b : List ℕ} → Held a b 0
+held-none = record { upto = omega arith; rest = refl }
+
+module _ {a b : List ℕ} {i : ℕ} (H : Held a b i) where
+  pub held-end : length a ≤ i → 0 ≡ firstLack a b
+  unfolding firstLack
+  held-end h = sym (H .rest ∙ rw (drop-of-length-le a h))
+
+  module _ (h : i < length a) where
+    pub held-lack : mem (getD a i 0) b ≡ false → getD a i 0 ≡ firstLack a b
+    unfolding firstLack
+    held-lack e = sym (H .rest ∙ rw (drop-cons a i 0 h, e))
+
+    pub held-more : mem (getD a i 0) b ≡ true → Held a b (i + 1)
+    unfolding firstLack
+    held-more e =
+        record { upto = omega arith; rest = H .rest ∙ rw (add-one, drop-cons a i 0 h, e) }
 
 -- ---- how many of a are not on b, where both ascend
 asc-drop : (i : ℕ) (l : List ℕ) → Asc l → Asc (drop i l)
@@ -82,31 +103,63 @@ lacks-skip (x ∷ xs) y ys h =
       lacks-skip xs y ys (λ z p. h z (or-right (eqb z x) (mem z xs) p)),
     )
 
-module _ (a b : List ℕ) (i j : ℕ) where
-  pub lacks-end : length a ≤ i → lacks (drop i a) (drop j b) ≡ 0
-  unfolding lacks
-  lacks-end h = rw (drop-of-length-le a h)
+-- the first i numbers of a and the first j of b are compared, and both have the same w of them
+pub record Compared (a b : List ℕ) (w i j : ℕ) : Type 0 where
+  pub in-a : i ≤ length a
+  pub in-b : j ≤ length b
+  pub few : w ≤ i
+  pub rest : lacks a b + w ≡ i + lacks (drop i a) (drop j b)
 
-  pub lacks-rest : length b ≤ j → lacks (drop i a) (drop j b) ≡ length a - i
-  lacks-rest h = rw (drop-of-length-le b h) (lacks-nil (drop i a) ∙ length-drop i a)
+pub compared-none : {a b : List ℕ} → Compared a b 0 0 0
+compared-none =
+    record { in-a = omega arith; in-b = omega arith; few = omega arith; rest = omega arith }
+
+module _ {a b : List ℕ} {w i j : ℕ} (C : Compared a b w i j) where
+  pub compared-a : length a ≤ i → length a - w ≡ lacks a b
+  unfolding lacks
+  compared-a h = omega (arith, C .in-a, rw (drop-of-length-le a h) at (C .rest))
+
+  pub compared-b : length b ≤ j → length a - w ≡ lacks a b
+  compared-b h = omega (
+    arith,
+    C .in-a,
+    C .few,
+    (rw (drop-of-length-le b h) at (C .rest)),
+    lacks-nil (drop i a),
+    length-drop i a,
+  )
 
   module _ (in-a : i < length a) (in-b : j < length b) where
-    pub lacks-pass : Asc a → getD b j 0 < getD a i 0
-        → lacks (drop i a) (drop j b) ≡ lacks (drop i a) (drop (j + 1) b)
-    lacks-pass asc h = rw (add-one, drop-cons b j 0 in-b)
-        (lacks-skip (drop i a) (getD b j 0) (drop (suc j) b)
-        (over-drop (getD b j 0) a i in-a asc h))
+    pub compared-pass : Asc a → getD b j 0 < getD a i 0 → Compared a b w i (j + 1)
+    compared-pass asc h = record {
+      in-a = C .in-a;
+      in-b = omega arith;
+      few = C .few;
+      rest = C .rest ∙ ap (λ (k : ℕ). i + k) (rw (add-one, drop-cons b j 0 in-b)
+          (lacks-skip (drop i a) (getD b j 0) (drop (suc j) b)
+          (over-drop (getD b j 0) a i in-a asc h)));
+    }
 
-    pub lacks-both : getD b j 0 ≡ getD a i 0
-        → lacks (drop i a) (drop j b) ≡ lacks (drop (i + 1) a) (drop j b)
-    unfolding lacks
-    lacks-both e = rw (add-one, drop-cons a i 0 in-a, mem-here (getD a i 0) b j in-b e)
+    module _ {w′ : ℕ} where
+      pub compared-both : getD b j 0 ≡ getD a i 0 → w′ ≡ w + 1 → Compared a b w′ (i + 1) j
+      unfolding lacks
+      compared-both e q = record {
+        in-a = omega arith;
+        in-b = C .in-b;
+        few = omega (arith, C .few);
+        rest = rw (add-one i) (omega (
+          arith,
+          (rw (drop-cons a i 0 in-a, mem-here (getD a i 0) b j in-b e) at (C .rest)),
+        ));
+      }
 
-    pub lacks-lone : Asc b → getD a i 0 < getD b j 0
-        → lacks (drop i a) (drop j b) ≡ suc (lacks (drop (i + 1) a) (drop j b))
-    unfolding lacks
-    lacks-lone asc h = rw (
-      add-one,
-      drop-cons a i 0 in-a,
-      over-not (getD a i 0) (drop j b) (over-drop (getD a i 0) b j in-b asc h),
-    )
+      pub compared-lone : Asc b → getD a i 0 < getD b j 0 → w′ ≡ w → Compared a b w′ (i + 1) j
+      unfolding lacks
+      compared-lone asc h q = record {
+        in-a = omega arith;
+        in-b = C .in-b;
+        few = omega (arith, C .few);
+        rest =
+            let out = over-not (getD a i 0) (drop j b) (over-drop (getD a i 0) b j in-b asc h) in
+            rw (add-one i) (omega (arith, (rw (drop-cons a i 0 in-a, out) at (C .rest))));
+      }

@@ -83,14 +83,14 @@ module _ {A M R : Type 0} {reads : Said A → R} {writes : A → M → M} where
     -- It is 0 exactly when the call gives its answer.
     pub call-zero : {s : Said A} {m m′ : M} {r : R} → Call reads writes s m r m′
         → (number r ≡ 0) ↔ Given s
-    call-zero {s = s} {r = r} x = zero-iff s (number r) (call-numbered x)
+    call-zero {s = s} {r = r} x = zero-iff s (call-numbered x)
 
     -- Where it is not 0, it is one of the numbers that the call is refused
     -- with.
     pub call-on : (ks : List ℕ) {s : Said A} {m m′ : M} {r : R} → OnlyBy ks s
         → Call reads writes s m r m′
         → (number r ≡ 0 → ⊥) → on ks (number r) ≡ true
-    call-on ks {s = s} {r = r} o x = numbered-on ks s (number r) (call-numbered x) o
+    call-on ks {s = s} {r = r} o x = numbered-on ks (call-numbered x) o
 
     -- Where it is not 0, what was lent is as it was.
     pub call-kept : {s : Said A} {m m′ : M} {r : R} → Call reads writes s m r m′

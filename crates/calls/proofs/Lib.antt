@@ -1,3 +1,4 @@
+pub mod AtOnce
 pub mod CallLaws
 pub mod CheckLaws
 pub mod NumberLaws

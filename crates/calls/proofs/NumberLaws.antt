@@ -89,26 +89,26 @@ module _ {A : Type 0} where
   code-numbered (refusesAt k p) = refused-at k p refl refl
 
   -- A number that stands for what is said is 0 exactly for an answer.
-  pub zero-iff : (s : Said A) (k : ℕ) → Numbered s k → (k ≡ 0) ↔ Given s
-  zero-iff (gives a) k (answered b e z) = (λ h. tt, λ g. z)
-  zero-iff (refuses r) k (answered b e z) = absurd (let w : _≡_ {A = ℕ} 0 1 = cc in omega arith)
-  zero-iff (refusesAt r p) k (answered b e z) = absurd (let w : _≡_ {A = ℕ} 0 1 = cc in omega arith)
-  zero-iff (gives a) k (refused r e z) = absurd (let w : _≡_ {A = ℕ} 0 1 = cc in omega arith)
-  zero-iff (refuses j) k (refused r e z) =
+  pub zero-iff : (s : Said A) {k : ℕ} → Numbered s k → (k ≡ 0) ↔ Given s
+  zero-iff (gives a) (answered b e z) = (λ h. tt, λ g. z)
+  zero-iff (refuses r) (answered b e z) = absurd (let w : _≡_ {A = ℕ} 0 1 = cc in omega arith)
+  zero-iff (refusesAt r p) (answered b e z) = absurd (let w : _≡_ {A = ℕ} 0 1 = cc in omega arith)
+  zero-iff (gives a) (refused r e z) = absurd (let w : _≡_ {A = ℕ} 0 1 = cc in omega arith)
+  zero-iff (refuses j) (refused r e z) =
       (λ h. absurd (omega (arith, number-some r)), λ g. absurd g)
-  zero-iff (refusesAt j p) k (refused r e z) = absurd (let w : _≡_ {A = ℕ} 0 1 = cc in omega arith)
-  zero-iff (gives a) k (refused-at r p e z) = absurd (let w : _≡_ {A = ℕ} 0 1 = cc in omega arith)
-  zero-iff (refuses j) k (refused-at r p e z) = absurd (let w : _≡_ {A = ℕ} 0 1 = cc in omega arith)
-  zero-iff (refusesAt j q) k (refused-at r p e z) =
+  zero-iff (refusesAt j p) (refused r e z) = absurd (let w : _≡_ {A = ℕ} 0 1 = cc in omega arith)
+  zero-iff (gives a) (refused-at r p e z) = absurd (let w : _≡_ {A = ℕ} 0 1 = cc in omega arith)
+  zero-iff (refuses j) (refused-at r p e z) = absurd (let w : _≡_ {A = ℕ} 0 1 = cc in omega arith)
+  zero-iff (refusesAt j q) (refused-at r p e z) =
       (λ h. absurd (omega (arith, number-some r)), λ g. absurd g)
 
   -- Where a call is refused only with some numbers, a number that stands for
   -- what it says and is not 0 is one of them.
-  pub numbered-on : (ks : List ℕ) (s : Said A) (k : ℕ) → Numbered s k → OnlyBy ks s → (k ≡ 0 → ⊥)
+  pub numbered-on : (ks : List ℕ) {s : Said A} {k : ℕ} → Numbered s k → OnlyBy ks s → (k ≡ 0 → ⊥)
       → on ks k ≡ true
-  numbered-on ks s k (answered a e z) o d = absurd (d z)
-  numbered-on ks s k (refused r e z) o d = ap (on ks) z ∙ subst (OnlyBy ks) e o
-  numbered-on ks s k (refused-at r p e z) o d = ap (on ks) z ∙ subst (OnlyBy ks) e o
+  numbered-on ks (answered a e z) o d = absurd (d z)
+  numbered-on ks (refused r e z) o d = ap (on ks) z ∙ subst (OnlyBy ks) e o
+  numbered-on ks (refused-at r p e z) o d = ap (on ks) z ∙ subst (OnlyBy ks) e o
 
   -- What is told of an answer has no other code.
   pub code-told : {B : Type 0} (f : A → B) (s : Said A) → codeOf (tells f s) ≡ codeOf s

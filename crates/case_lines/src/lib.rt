@@ -111,14 +111,14 @@ pub fn number(word: &[u8]) -> u64 {
     k
 }
 
-// Reads standard input into what is lent; how many bytes it has, or none where
-// it could not be read whole.
-pub fn read(input: &mut [u8]) -> usize {
-    let got = io::read_full(STDIN_FILENO, input);
+// Standard input, read into what is lent, or none of it where it could not be
+// read whole.
+pub fn read(room: &mut [u8]) -> &[u8] {
+    let got = io::read_full(STDIN_FILENO, room);
     if whole_input::whole(got) {
-        return got;
+        return first(room, got);
     }
-    0
+    first(room, 0)
 }
 
 // Whether a line is a case.

@@ -1,5 +1,7 @@
 // Lists of bytes and of numbers, as a word of a case has them, and lent lists.
+ghost use Rattle.case_lists.specs.Marks.{Tells};
 use case_lines::count;
+use case_lines::first;
 use case_lines::head;
 use case_lines::line;
 use case_lines::lines;
@@ -178,16 +180,40 @@ pub fn bytes(input: &[u8], word: &[u8], out: &mut [u8]) -> usize {
     end
 }
 
+// The bytes of a word, put into what is lent.
+pub fn given<'a>(input: &[u8], word: &[u8], room: &'a mut [u8]) -> &'a [u8] {
+    let long = bytes(input, word, room);
+    first(room, long)
+}
+
 // The first k numbers, none where there are fewer.
 pub fn firsts(s: &[u64], k: usize) -> &[u64] {
     if k <= s.len() {
-        return &s[..k];
+        return &s[0..k];
     }
-    &s[..0]
+    &s[0..0]
+}
+
+// The same, to be lent.
+pub fn firsts_mut(s: &mut [u64], k: usize) -> &mut [u64] {
+    if k <= s.len() {
+        return &mut s[0..k];
+    }
+    &mut s[0..0]
+}
+
+// The first k bytes to be lent, none where there are fewer.
+pub fn first_mut(s: &mut [u8], k: usize) -> &mut [u8] {
+    if k <= s.len() {
+        return &mut s[0..k];
+    }
+    &mut s[0..0]
 }
 
 // Whether each number of a lent list is the mark.
-pub fn all_marks(out: &[u64]) -> bool {
+pub fn all_marks(out: &[u64]) -> bool
+    ensures { λ r. ⌜ Tells (now (out .entry)) 999 0 r ⌝ }
+{
     let mut i: usize = 0;
     while i < out.len() {
         if out[i] != MARK {
@@ -199,7 +225,9 @@ pub fn all_marks(out: &[u64]) -> bool {
 }
 
 // Whether the lent bytes from a place on are a mark still.
-pub fn marked(lent: &[u8], mark: u8, from: usize) -> bool {
+pub fn marked(lent: &[u8], mark: u8, from: usize) -> bool
+    ensures { λ r. ⌜ Tells (now (lent .entry)) mark from r ⌝ }
+{
     let mut i = from;
     while i < lent.len() {
         if lent[i] != mark {

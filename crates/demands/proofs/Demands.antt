@@ -424,7 +424,7 @@ count-saved = saved-unchanged
 pub few-unchanged : (n : ℕ) (t u : List ℕ) (y : ℕ) → Valid n t → Valid n u
     → y < 2 ^ n → size n y < 4 → dist n t u y ≡ 0
 few-unchanged n t u y first second bound few =
-    few-same n y bound few t u first second
+    few-same n y bound few first second
 
 -- So for two valid tables and partitions of the n taxa, the number unchanged
 -- is the number saved plus the number of those of fewer than four taxa.

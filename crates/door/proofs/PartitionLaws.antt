@@ -104,7 +104,7 @@ module _ (n : ℕ) where
     pub parts-none : counted n ≡ false → gives tt ≡ partsSaid n cs
     parts-none h = rw h
 
-    pub parts-said : counted n ≡ true → judged cs tt ≡ partsSaid n cs
+    parts-said : counted n ≡ true → judged cs tt ≡ partsSaid n cs
     parts-said h = rw h
 
 -- No partitions, no checks of them.
@@ -117,15 +117,17 @@ no-parts n = go (counted n)
     go false = refl
 
 -- One partition.
-module _ (n y : ℕ) where
-  pub part-right : ltb y (2 ^ n) ≡ true → gives tt ≡ judged (partitionChecks n y) (tt {0})
-  unfolding judged
-  part-right h = rw h
+module _ (n y : ℕ) (number : counted n ≡ true) where
+  abbrev partSaid : Said (Unit {0})
+  partSaid = partsSaid n (partitionChecks n y)
 
-  pub part-6 : ltb y (2 ^ n) ≡ false
-      → refuses Refusal.Partition ≡ judged (partitionChecks n y) (tt {0})
+  pub part-right : ltb y (2 ^ n) ≡ true → gives tt ≡ partSaid
   unfolding judged
-  part-6 h = rw h
+  part-right h = rw (number, h)
+
+  pub part-6 : ltb y (2 ^ n) ≡ false → refuses Refusal.Partition ≡ partSaid
+  unfolding judged
+  part-6 h = rw (number, h)
 
 -- A list.
 module _ (n : ℕ) (ys : List ℕ) where
@@ -133,39 +135,48 @@ module _ (n : ℕ) (ys : List ℕ) where
   eachWithin = each (λ y. ltb y (2 ^ n)) ys
 
   abbrev listSaid : Said (Unit {0})
-  listSaid = judged (partitionsChecks n ys) tt
+  listSaid = partsSaid n (partitionsChecks n ys)
 
-  list-6 : (countRight (length ys) && eachWithin) ≡ false → refuses Refusal.Partition ≡ listSaid
+  list-6 : counted n ≡ true → (countRight (length ys) && eachWithin) ≡ false
+      → refuses Refusal.Partition ≡ listSaid
   unfolding judged
-  list-6 h = rw h
+  list-6 c h = rw (c, h)
 
-  pub count-6 : countRight (length ys) ≡ false → refuses Refusal.Partition ≡ listSaid
-  count-6 h = list-6 (ap (λ (b : Bool). b && eachWithin) h)
+  pub count-6 : counted n ≡ true → countRight (length ys) ≡ false
+      → refuses Refusal.Partition ≡ listSaid
+  count-6 c h = list-6 c (ap (λ (b : Bool). b && eachWithin) h)
 
-  -- all being the union of the list
-  module _ (right : countRight (length ys) ≡ true) {all : ℕ} (is : all ≡ union ys) where
-    by-union : (countRight (length ys) && eachWithin) ≡ ltb all (2 ^ n)
-    by-union = ap (λ (b : Bool). b && eachWithin) right
-        ∙ sym (ap (λ (z : ℕ). ltb z (2 ^ n)) is ∙ within-union n ys)
+-- A list that has as many partitions as it may, all being its union.
+pub record United (n : ℕ) (ys : List ℕ) (all : ℕ) : Type 0 where
+  pub number : counted n ≡ true
+  pub right : countRight (length ys) ≡ true
+  pub is : all ≡ union ys
 
-    pub union-6 : ltb all (2 ^ n) ≡ false → refuses Refusal.Partition ≡ listSaid
-    union-6 w = list-6 (by-union ∙ w)
+module _ {n : ℕ} {ys : List ℕ} {all : ℕ} (u : United n ys all) where
+  by-union : (countRight (length ys) && eachWithin n ys) ≡ ltb all (2 ^ n)
+  by-union = ap (λ (b : Bool). b && eachWithin n ys) (u .right)
+      ∙ sym (ap (λ (z : ℕ). ltb z (2 ^ n)) (u .is) ∙ within-union n ys)
 
-    module _ (w : ltb all (2 ^ n) ≡ true) where
-      past-6 : listSaid ≡ judged ((every (has all) n else Refusal.Unseen) ∷ []) tt
-      past-6 =
-          judged-next (countRight (length ys) && eachWithin) Refusal.Partition
-          ((allSeen n ys else Refusal.Unseen) ∷ []) tt (by-union ∙ w)
-          ∙ ap (λ (b : Bool). judged ((b else Refusal.Unseen) ∷ []) tt)
-          (sym (ap (λ (z : ℕ). every (has z) n) is ∙ seen-union n ys))
+  pub union-6 : ltb all (2 ^ n) ≡ false → refuses Refusal.Partition ≡ listSaid n ys
+  union-6 w = list-6 n ys (u .number) (by-union ∙ w)
 
-      pub union-right : every (has all) n ≡ true → gives tt ≡ listSaid
-      unfolding judged
-      union-right h = sym (past-6 ∙ judged-next (every (has all) n) Refusal.Unseen [] tt h)
+  module _ (w : ltb all (2 ^ n) ≡ true) where
+    past-6 : judged ((every (has all) n else Refusal.Unseen) ∷ []) tt ≡ listSaid n ys
+    past-6 =
+        sym (judged-next (countRight (length ys) && eachWithin n ys) Refusal.Partition
+        ((allSeen n ys else Refusal.Unseen) ∷ []) tt (by-union ∙ w)
+        ∙ ap (λ (b : Bool). judged ((b else Refusal.Unseen) ∷ []) tt)
+        (sym (ap (λ (z : ℕ). every (has z) n) (u .is) ∙ seen-union n ys)))
+        ∙ parts-said n (partitionsChecks n ys) (u .number)
 
-      pub union-16 : every (has all) n ≡ false → refuses Refusal.Unseen ≡ listSaid
-      union-16 h = sym (past-6 ∙ judged-fail (every (has all) n) Refusal.Unseen [] tt h)
+    pub union-right : every (has all) n ≡ true → gives tt ≡ listSaid n ys
+    unfolding judged
+    union-right h = sym (judged-next (every (has all) n) Refusal.Unseen [] tt h) ∙ past-6
 
+    pub union-16 : every (has all) n ≡ false → refuses Refusal.Unseen ≡ listSaid n ys
+    union-16 h = sym (judged-fail (every (has all) n) Refusal.Unseen [] tt h) ∙ past-6
+
+module _ (n : ℕ) (ys : List ℕ) where
   -- Of a list that is right: it is not too long, and each of its partitions
   -- is right.
   pub few-of : Pass (partitionsChecks n ys) → length ys ≤ mostPartitions
@@ -173,7 +184,7 @@ module _ (n : ℕ) (ys : List ℕ) where
       let count = leb 1 (length ys) in
       let few = leb (length ys) mostPartitions in
       leb-true (length ys) mostPartitions
-      (and-right count few (and-left (count && few) eachWithin (p .0)))
+      (and-right count few (and-left (count && few) (eachWithin n ys) (p .0)))
 
   pub each-of : Pass (partitionsChecks n ys) → each (λ y. ltb y (2 ^ n)) ys ≡ true
-  each-of p = and-right (countRight (length ys)) eachWithin (p .0)
+  each-of p = and-right (countRight (length ys)) (eachWithin n ys) (p .0)

@@ -15,48 +15,54 @@ use mir.Val.{Fits}
 use borrow.Author.Tests.{eq-eqb, ne-eqb, le-leb, lt-leb, leb-true}
 use Rattle.taxa.specs.Most.{mostPartitions}
 use Rattle.taxa.specs.Sets.{pick}
-use Rattle.taxa.proofs.Bools.{bool-eq, and-false-r}
+use Rattle.taxa.proofs.Bools.{bool-eq, and-right, and-false-r}
 use Rattle.fields.specs.Fields.{statedAt, headed, complete, highFirst, numberIn, allowedOf}
-use Rattle.fields.specs.Fields.{allowed}
+use Rattle.fields.specs.Fields.{allowed, lengthRight}
 
 -- ---- tags
-module _ (at parts moves tag : ℕ) where
-  pub at-start : at ≡ 0 → eqb tag 1 ≡ allowed at parts moves tag
+
+-- Past the table's field, with a partition read.
+pub record Later (at parts : ℕ) : Type 0 where
+  pub not-start : at ≡ 0 → ⊥
+  pub not-table : at ≡ 4 → ⊥
+  pub some : parts ≡ 0 → ⊥
+
+pub at-start : {at : ℕ} (parts moves tag : ℕ) → at ≡ 0 → eqb tag 1 ≡ allowed at parts moves tag
+unfolding allowedOf
+at-start {at} parts moves tag h = rw (eq-eqb at 0 h)
+
+pub at-table : {at : ℕ} (parts moves tag : ℕ) → at ≡ 4 → eqb tag 2 ≡ allowed at parts moves tag
+unfolding allowedOf
+at-table parts moves tag h = rw h
+
+pub no-parts : {at parts : ℕ} (moves tag : ℕ) → (at ≡ 0 → ⊥) → (at ≡ 4 → ⊥) → parts ≡ 0
+    → eqb tag 3 ≡ allowed at parts moves tag
+unfolding allowedOf
+no-parts {at} {parts} moves tag a b h = rw (ne-eqb at 0 a, ne-eqb at 4 b, eq-eqb parts 0 h)
+
+module _ {at parts : ℕ} (L : Later at parts) where
+  later : (moves tag : ℕ) → allowed at parts moves tag
+      ≡ pick (eqb moves 0) (eqb tag 4 || eqb tag 3 && ltb parts mostPartitions) (eqb tag 4)
   unfolding allowedOf
-  at-start h = rw (eq-eqb at 0 h)
+  later moves tag =
+      rw (ne-eqb at 0 (L .not-start), ne-eqb at 4 (L .not-table), ne-eqb parts 0 (L .some))
 
-  pub at-table : at ≡ 4 → eqb tag 2 ≡ allowed at parts moves tag
-  unfolding allowedOf
-  at-table h = rw h
+  pub a-move : (moves : ℕ) {tag : ℕ} → tag ≡ 4 → true ≡ allowed at parts moves tag
+  a-move moves {tag} h = rw (later moves tag, eq-eqb tag 4 h) (same (eqb moves 0))
+    where
+      same : (m : Bool) → true ≡ pick m true true
+      same true = refl
+      same false = refl
 
-  module _ (a : at ≡ 0 → ⊥) (b : at ≡ 4 → ⊥) where
-    pub no-parts : parts ≡ 0 → eqb tag 3 ≡ allowed at parts moves tag
-    unfolding allowedOf
-    no-parts h = rw (ne-eqb at 0 a, ne-eqb at 4 b, eq-eqb parts 0 h)
+  module _ {moves tag : ℕ} (d : tag ≡ 4 → ⊥) where
+    pub moves-only : (moves ≡ 0 → ⊥) → false ≡ allowed at parts moves tag
+    moves-only h = rw (later moves tag, ne-eqb tag 4 d, ne-eqb moves 0 h)
 
-    module _ (c : parts ≡ 0 → ⊥) where
-      -- a partition was read
-      later : allowed at parts moves tag
-          ≡ pick (eqb moves 0) (eqb tag 4 || eqb tag 3 && ltb parts mostPartitions) (eqb tag 4)
-      unfolding allowedOf
-      later = rw (ne-eqb at 0 a, ne-eqb at 4 b, ne-eqb parts 0 c)
+    pub no-tag : moves ≡ 0 → (tag ≡ 3 → ⊥) → false ≡ allowed at parts moves tag
+    no-tag h e = rw (later moves tag, ne-eqb tag 4 d, eq-eqb moves 0 h, ne-eqb tag 3 e)
 
-      pub a-move : tag ≡ 4 → true ≡ allowed at parts moves tag
-      a-move h = rw (later, eq-eqb tag 4 h) (same (eqb moves 0))
-        where
-          same : (m : Bool) → true ≡ pick m true true
-          same true = refl
-          same false = refl
-
-      module _ (d : tag ≡ 4 → ⊥) where
-        pub moves-only : (moves ≡ 0 → ⊥) → false ≡ allowed at parts moves tag
-        moves-only h = rw (later, ne-eqb tag 4 d, ne-eqb moves 0 h)
-
-        pub no-tag : moves ≡ 0 → (tag ≡ 3 → ⊥) → false ≡ allowed at parts moves tag
-        no-tag h e = rw (later, ne-eqb tag 4 d, eq-eqb moves 0 h, ne-eqb tag 3 e)
-
-        pub more-parts : moves ≡ 0 → tag ≡ 3 → ltb parts mostPartitions ≡ allowed at parts moves tag
-        more-parts h e = rw (later, ne-eqb tag 4 d, eq-eqb moves 0 h, eq-eqb tag 3 e)
+    pub more-parts : moves ≡ 0 → tag ≡ 3 → ltb parts mostPartitions ≡ allowed at parts moves tag
+    more-parts h e = rw (later moves tag, ne-eqb tag 4 d, eq-eqb moves 0 h, eq-eqb tag 3 e)
 
 -- ---- lengths
 module _ (job : List ℕ) (at l : ℕ) where
@@ -76,22 +82,30 @@ module _ (job : List ℕ) (at l : ℕ) where
       (λ t. le-leb (at + 3 + l) (length job) (omega (arith, h, leb-true l (length job - at - 3) t)))
       (λ t. le-leb l (length job - at - 3) (omega (arith, leb-true (at + 3 + l) (length job) t))))
 
--- ---- numbers
-pub high-byte : (a : ℕ) → Fits w8 a → a * 256 < 2 ^ 64
-high-byte a h = omega (arith, h)
+-- The field at an offset has the length l and is there to its end.
+pub record Framed (job : List ℕ) (at l : ℕ) : Type 0 where
+  pub right : lengthRight job at l ≡ true
 
-pub two-bytes : (a b : ℕ) → Fits w8 a → Fits w8 b → a * 256 + b < 2 ^ 64
-two-bytes a b h k = omega (arith, h, k)
+pub reaches : {job : List ℕ} {at l : ℕ} → Framed job at l → at + 3 + l ≤ length job
+reaches {job} {at} {l} F = leb-true (at + 3 + l) (length job)
+    (and-right (headed job at && eqb (statedAt job at) l) (complete job at l) (F .right))
+
+-- ---- numbers
+pub high-byte : {a : ℕ} → Fits w8 a → a * 256 < 2 ^ 64
+high-byte h = omega arith
+
+pub two-bytes : {a b : ℕ} → Fits w8 a → Fits w8 b → a * 256 + b < 2 ^ 64
+two-bytes h k = omega arith
 
 more-bytes : (a : ℕ) (bs : List ℕ) (b : ℕ) → highFirst a (bs ++ b ∷ []) ≡ highFirst a bs * 256 + b
 unfolding highFirst
 more-bytes a [] b = refl
 more-bytes a (c ∷ bs) b = more-bytes (a * 256 + c) bs b
 
-pub next-byte : (job : List ℕ) (from i y : ℕ) → from + i < length job
+pub next-byte : (job : List ℕ) (from i : ℕ) {y : ℕ} → from + i < length job
     → y ≡ numberIn (take i (drop from job))
     → y * 256 + getD job (from + i) 0 ≡ numberIn (take (i + 1) (drop from job))
-next-byte job from i y l e =
+next-byte job from i l e =
     rw (
       add-one i,
       take-suc (drop from job) i 0 (omega (arith, length-drop from job)),
@@ -100,13 +114,13 @@ next-byte job from i y l e =
     )
     (ap (λ (n : ℕ). n * 256 + getD job (from + i) 0) e)
 
-pub byte-below : (i y b : ℕ) → y < 256 ^ i → b < 256 → y * 256 + b < 256 ^ (i + 1)
-byte-below i y b l k = rw (add-one i) (omega (arith, pow-suc 256 i))
+pub byte-below : (i : ℕ) {y b : ℕ} → y < 256 ^ i → b < 256 → y * 256 + b < 256 ^ (i + 1)
+byte-below i l k = rw (add-one i) (omega (arith, pow-suc 256 i))
 
-pub eight-bytes : (i y b : ℕ) → i < 8 → y < 256 ^ i → b < 256 → y * 256 + b < 2 ^ 64
-eight-bytes i y b h l k =
+pub eight-bytes : {i y b : ℕ} → i < 8 → y < 256 ^ i → b < 256 → y * 256 + b < 2 ^ 64
+eight-bytes {i} h l k =
     omega (
       arith,
-      byte-below i y b l k,
+      byte-below i l k,
       pow-le-pow-right {n = 256} (omega arith) {i = i + 1} {j = 8} (omega arith),
     )

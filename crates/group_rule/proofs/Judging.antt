@@ -2,16 +2,16 @@
 -- written in order, and the numbers are the distances of two trees. Assumes
 -- nothing.
 use mathlib.Core.Path.{_≡_, refl, sym, ap, ap₂, _∙_}
-use mathlib.Core.Bool.{true, _&&_}
+use mathlib.Core.Bool.{true, false, not, _&&_}
 use mathlib.Core.List.{List, [], _∷_, _++_}
-use Prim.Native.Nat.{ℕ, suc, _+_, _-_, _^_, _<_, _≤_}
+use Prim.Native.Nat.{ℕ, suc, _+_, _^_, _<_, _≤_}
 use native.Mathlib.Omega.{arith}
 use native.Mathlib.Numerals.{add-one}
 use lib.Bits.{bitAnd}
 use lib.Dec.{eqb, ltb}
 use lib.ListN.{length, take, drop, getD, set, length-drop}
 use lib.Seq.{take-suc, drop-cons, drop-length, length-take-le, take-length}
-use borrow.Author.Tests.{ltb-true, eqb-true, eq-eqb}
+use borrow.Author.Tests.{ltb-true, eqb-true, eq-eqb, ne-eqb}
 use Rattle.calls.specs.Calls.{atStart}
 use Rattle.calls.proofs.StartLaws.{start-put, wrote-length}
 use Rattle.taxa.specs.Sets.{tally, some}
@@ -21,48 +21,71 @@ use Rattle.tree.specs.Splits.{dist, distancesBy, distances, unchanged}
 use Rattle.tree.specs.Refusals.{each}
 use Rattle.moves.specs.Groups.{met}
 use Rattle.moves.proofs.Ways.GroupLists.{met-le}
-use Rattle.group_rule.specs.Between.{mapped, Judges}
+use Rattle.group_rule.specs.Between.{mapped, allMeet, Judges}
 use Rattle.group_rule.specs.Zeros.{zeros}
 
--- ---- the groups from place i on: the one there, and the rest; none at the end
-pub met-rest : (y : ℕ) (gs : List ℕ) (i : ℕ) → i < length gs
-    → met y (drop i gs) ≡ tally (some (bitAnd (getD gs i 0) y)) + met y (drop (i + 1) gs)
-unfolding met
-met-rest y gs i l = rw (drop-cons gs i 0 l, add-one)
+-- ---- of the groups before place i, k meet y
+pub record Passed (y : ℕ) (gs : List ℕ) (i k : ℕ) : Type 0 where
+  pub within : i ≤ length gs
+  pub all : met y gs ≡ k + met y (drop i gs)
 
-pub met-end : (y : ℕ) (gs : List ℕ) (i : ℕ) → i ≤ length gs → length gs ≤ i → met y (drop i gs) ≡ 0
-unfolding met
-met-end y gs i l m = let e : i ≡ length gs = omega arith in rw (e, drop-length)
+pub passed-none : (y : ℕ) (gs : List ℕ) → Passed y gs 0 0
+passed-none y gs = record { within = omega arith; all = omega arith }
 
--- no more than the groups there
-pub met-few : (y : ℕ) (gs : List ℕ) (i : ℕ) → met y (drop i gs) ≤ length gs - i
-met-few y gs i = omega (arith, met-le y (drop i gs), length-drop i gs)
+module _ {y : ℕ} {gs : List ℕ} {i k : ℕ} (P : Passed y gs i k) where
+  pub passed-end : length gs ≤ i → met y gs ≡ k
+  unfolding met
+  passed-end m =
+      let e : i ≡ length gs = omega arith in
+      let none : met y (drop i gs) ≡ 0 = rw (e, drop-length) in
+      omega arith
+
+  pub met-full : k ≡ i → length gs ≤ i → true ≡ allMeet y gs
+  met-full e m = rw (eq-eqb (met y gs) (length gs) (omega (arith, passed-end m)))
+
+  pub passed-few : k ≤ length gs
+  passed-few = omega (arith, met-le y gs)
+
+  -- m tells whether the group there meets y
+  module _ (l : i < length gs) {m : ℕ} (h : m ≡ tally (some (bitAnd (getD gs i 0) y))) where
+    pub passed-next : {k′ : ℕ} → k′ ≡ k + m → Passed y gs (i + 1) k′
+    unfolding met
+    passed-next e =
+        let next : met y (drop i gs) ≡ m + met y (drop (i + 1) gs) =
+        rw (drop-cons gs i 0 l, add-one, h) in
+        record { within = omega arith; all = omega arith }
+
+    pub passed-met : (m ≡ 0 → ⊥) → Passed y gs (i + 1) (k + 1)
+    passed-met d = passed-next (omega (arith, tally-one (some (bitAnd (getD gs i 0) y))))
+
+    pub passed-missed : m ≡ 0 → Passed y gs (i + 1) k
+    passed-missed z = passed-next (omega arith)
+
+    pub met-some : (m ≡ 0 → ⊥) → true ≡ not (eqb (met y gs) 0)
+    met-some d = rw (ne-eqb (met y gs) 0 (omega (arith, passed-met d)))
+
+    pub met-short : m ≡ 0 → k ≤ i → false ≡ allMeet y gs
+    met-short z ki =
+        let few = met-le y (drop (i + 1) gs) in
+        let left = length-drop (i + 1) gs in
+        rw (ne-eqb (met y gs) (length gs) (omega (arith, passed-missed z)))
 
 -- of two and two groups all four are met exactly where both pairs are
 pub four-met : (y : ℕ) (gs hs : List ℕ) → (length gs ≡ 2) × (length hs ≡ 2)
     → eqb (met y gs + met y hs) 4 ≡ (eqb (met y gs) (length gs) && eqb (met y hs) (length hs))
 four-met y gs hs two =
-    bool-eq (eqb (k + j) 4) (eqb k (length gs) && eqb j (length hs))
-    (λ h. apart (eqb-true (k + j) 4 h))
-    (λ h. eq-eqb (k + j) 4 (omega (
-      arith,
-      eqb-true k (length gs) (and-left (eqb k (length gs)) (eqb j (length hs)) h),
-      eqb-true j (length hs) (and-right (eqb k (length gs)) (eqb j (length hs)) h),
-      two .0,
-      two .1,
-    )))
-  where
-    k : ℕ
-    k = met y gs
-
-    j : ℕ
-    j = met y hs
-
-    apart : k + j ≡ 4 → (eqb k (length gs) && eqb j (length hs)) ≡ true
-    apart e =
-        and-both (eqb k (length gs)) (eqb j (length hs))
-        (eq-eqb k (length gs) (omega (arith, e, met-le y gs, met-le y hs, two .0, two .1)))
-        (eq-eqb j (length hs) (omega (arith, e, met-le y gs, met-le y hs, two .0, two .1)))
+    let few = met-le y gs in
+    let few′ = met-le y hs in
+    bool-eq (eqb (met y gs + met y hs) 4)
+    (eqb (met y gs) (length gs) && eqb (met y hs) (length hs))
+    (λ h.
+    let e = eqb-true (met y gs + met y hs) 4 h in
+    and-both (eqb (met y gs) (length gs)) (eqb (met y hs) (length hs))
+    (eq-eqb (met y gs) (length gs) (omega arith)) (eq-eqb (met y hs) (length hs) (omega arith)))
+    (λ h.
+    let p = eqb-true (met y gs) (length gs) (and-left (eqb (met y gs) (length gs)) _ h) in
+    let q = eqb-true (met y hs) (length hs) (and-right (eqb (met y gs) (length gs)) _ h) in
+    eq-eqb (met y gs + met y hs) 4 (omega arith))
 
 -- ---- one number more
 length-mapped : (f : ℕ → ℕ) (ys : List ℕ) → length (mapped f ys) ≡ length ys
@@ -86,38 +109,48 @@ unfolding zeros
 zeros-le [] = omega arith
 zeros-le (x ∷ xs) = omega (arith, zeros-le xs, tally-one (eqb x 0))
 
-pub judge-none : (f : ℕ → ℕ) (o : List ℕ) → Judges f [] o 0 o
-unfolding mapped zeros
-judge-none f o = record { count = refl; memory = refl }
-
 -- the first i of ys are done
-module _ (f : ℕ → ℕ) (ys : List ℕ) {o : List ℕ} (i : ℕ) (within : i ≤ length ys) {r : ℕ}
-    {out : List ℕ} (so-far : Judges f (take i ys) o r out) where
-  size : length (take i ys) ≡ i
-  size = length-take-le i ys within
+pub record Judged (f : ℕ → ℕ) (ys o : List ℕ) (i r : ℕ) (out : List ℕ) : Type 0 where
+  pub within : i ≤ length ys
+  pub so-far : Judges f (take i ys) o r out
+  pub room : length ys ≤ length o
 
-  pub judge-few : r ≤ i
-  judge-few = omega (arith, zeros-le (mapped f (take i ys)), length-mapped f (take i ys), size)
+pub judged-none : {ys o : List ℕ} (f : ℕ → ℕ) → length ys ≤ length o → Judged f ys o 0 0 o
+unfolding mapped zeros
+judged-none f room = record {
+  within = omega arith;
+  so-far = record { count = refl; memory = refl };
+  room = room;
+}
 
-  pub judge-end : length ys ≤ i → Judges f ys o r out
-  judge-end m = let e : i ≡ length ys = omega arith in rw (e, take-length) at so-far
+module _ {f : ℕ → ℕ} {ys o : List ℕ} {i r : ℕ} {out : List ℕ} (J : Judged f ys o i r out) where
+  size : length (mapped f (take i ys)) ≡ i
+  size = length-mapped f (take i ys) ∙ length-take-le i ys (J .within)
 
-  pub judge-length : length ys ≤ length o → length out ≡ length o
-  judge-length room =
-      wrote-length so-far (omega (arith, length-mapped f (take i ys), size, within, room))
+  pub judged-few : r ≤ i
+  judged-few = omega (arith, J .so-far .count, zeros-le (mapped f (take i ys)), size)
 
-  pub judge-next : length ys ≤ length o → i < length ys → (d : ℕ) → d ≡ f (getD ys i 0)
-      → Judges f (take (i + 1) ys) o (r + tally (eqb d 0)) (set out i d)
-  judge-next room l d e =
+  pub judged-end : length ys ≤ i → Judges f ys o r out
+  judged-end m = let e : i ≡ length ys = omega arith in rw (e, take-length) at (J .so-far)
+
+  pub judged-length : length out ≡ length o
+  judged-length = wrote-length (J .so-far) (omega (arith, size))
+
+  pub judged-next : i < length ys → {d : ℕ} → d ≡ f (getD ys i 0)
+      → Judged f ys o (i + 1) (r + tally (eqb d 0)) (set out i d)
+  judged-next l {d} e =
       let ds = mapped f (take i ys) in
-      let i-is : i ≡ length ds = sym (length-mapped f (take i ys) ∙ size) in
       let more : mapped f (take (i + 1) ys) ≡ ds ++ d ∷ [] =
       rw (add-one, take-suc ys i 0 l, mapped-more, e) in
       record {
-        count = rw (more, zeros-more, so-far .count);
-        memory = ap₂ (λ (w : List ℕ) (k : ℕ). set w k d) (so-far .memory) i-is
-            ∙ start-put ds o d (omega (arith, i-is, l, room))
-            ∙ ap (λ (w : List ℕ). atStart w o) (sym more);
+        within = omega arith;
+        so-far = record {
+          count = rw (more, zeros-more, J .so-far .count);
+          memory = ap₂ (λ (w : List ℕ) (k : ℕ). set w k d) (J .so-far .memory) (sym size)
+              ∙ start-put ds o d (omega (arith, size, J .room))
+              ∙ ap (λ (w : List ℕ). atStart w o) (sym more);
+        };
+        room = J .room;
       }
 
 -- ---- the numbers are distances

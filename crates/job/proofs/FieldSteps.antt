@@ -11,7 +11,7 @@ use borrow.Author.Tests.{ne-eqb, le-leb, lt-leb}
 use Rattle.taxa.specs.Sets.{pick}
 use Rattle.calls.specs.Calls.{Said, gives, refuses, judged, refusesAt, tells, _else_}
 use Rattle.calls.specs.declared.Refusal.{Refusal}
-use Rattle.calls.proofs.CallLaws.{call-is}
+use Rattle.calls.proofs.CallLaws.{call-is, call-refusesAt}
 use Rattle.calls.proofs.CheckLaws.{judged-next, judged-fail}
 use Rattle.fields.specs.Fields.{tagAt, allowed}
 use Rattle.job_steps.specs.Job.{Known, Outcome, next, over, after, seenSoFar, endStep, tagStep}
@@ -25,29 +25,15 @@ use Rattle.job_steps.specs.declared.State.{State}
 use Rattle.job_steps.specs.declared.Stepped.{Stepped}
 use Rattle.job_steps.proofs.StepLaws.{lending-same, parts-held, table-first, table-fits}
 
--- ---- which step a tag takes
-module _ (job : List ℕ) (k : Known) (tag : ℕ) where
-  pub field-1 : tag ≡ 1 → taxaStep job (k .at) ≡ taggedStep job k tag
-  unfolding taggedStepOf
-  field-1 e = rw e
-
-  pub field-2 : tag ≡ 2 → tableStep job (k .at) (k .taxa) ≡ taggedStep job k tag
-  unfolding taggedStepOf
-  field-2 e = rw e
-
-  pub field-3 : tag ≡ 3 → partitionStep job k ≡ taggedStep job k tag
-  unfolding taggedStepOf
-  field-3 e = rw e
-
-  pub field-4 : (tag ≡ 1 → ⊥) → (tag ≡ 2 → ⊥) → (tag ≡ 3 → ⊥)
-      → moveStep job k ≡ taggedStep job k tag
-  unfolding taggedStepOf
-  field-4 a b c = rw (ne-eqb tag 1 a, ne-eqb tag 2 b, ne-eqb tag 3 c)
+-- ---- the step that a tag takes
+abbrev tagged : List ℕ → State → Lent → Outcome
+tagged job s m = fitting (s .at) m (taggedStep job (knownOf s m) (tagAt job (s .at)))
 
 -- ---- n
-module _ (job : List ℕ) (at : ℕ) (r : Stepped) (m : Lent) where
+module _ (job : List ℕ) (s : State) (r : Stepped) (m : Lent) where
   -- What gives no table, no partitions and no lines fits.
-  plain : (n : ℕ) → fitting at m (gives (next (withTaxa at n) [])) ≡ gives (next (withTaxa at n) [])
+  plain : (n : ℕ) → fitting (s .at) m (gives (next (withTaxa (s .at) n) []))
+      ≡ gives (next (withTaxa (s .at) n) [])
   plain n =
       rw (
         le-leb 0 (length (m .table)) (omega arith),
@@ -55,22 +41,30 @@ module _ (job : List ℕ) (at : ℕ) (r : Stepped) (m : Lent) where
         le-leb 0 (length (m .out)) (omega arith),
       )
 
-  pub taxa-gives : steppedSays r ≡ tells toldOf (taxaStep job at)
-      → Gives (fitting at m (taxaStep job at)) r m m
-  taxa-gives = go (taxaField job at)
+  pub taxa-gives : tagAt job (s .at) ≡ 1 → steppedSays r ≡ tells toldOf (taxaStep job (s .at))
+      → Gives (tagged job s m) r m m
+  unfolding taggedStepOf
+  taxa-gives e h = rw e (go (taxaField job (s .at)) h)
     where
       go : (x : Said ℕ) → steppedSays r
-          ≡ tells toldOf (after at x (λ n. gives (next (withTaxa at n) [])))
-          → Gives (fitting at m (after at x (λ n. gives (next (withTaxa at n) [])))) r m m
-      go (gives n) h = call-is (sym (plain n)) (record { says = h; memory = refl })
-      go (refuses j) h = record { says = h; memory = refl }
-      go (refusesAt j q) h = record { says = h; memory = refl }
+          ≡ tells toldOf (after (s .at) x (λ n. gives (next (withTaxa (s .at) n) [])))
+          → Gives (fitting (s .at) m
+          (after (s .at) x (λ n. gives (next (withTaxa (s .at) n) [])))) r m m
+      go (gives n) w = call-is (sym (plain n)) (record { says = w; memory = refl })
+      go (refuses j) w = record { says = w; memory = refl }
+      go (refusesAt j q) w = record { says = w; memory = refl }
 
 -- ---- the table
 
 -- A step that was lent memory for the table alone is the step with all that is
 -- lent.
-module _ (job : List ℕ) (at n : ℕ) (r : Stepped) (table table′ parts out : List ℕ) where
+module _ (job : List ℕ) (s : State) (r : Stepped) (table table′ parts out : List ℕ) where
+  abbrev at : ℕ
+  at = s .at
+
+  abbrev n : ℕ
+  n = s .taxa
+
   -- the outcome of a table u that fits where b says so
   abbrev table-so : Bool → List ℕ → Outcome
   table-so b u = pick (b && true && true) (putStep at n u) (refusesAt Refusal.Room at)
@@ -96,11 +90,13 @@ module _ (job : List ℕ) (at n : ℕ) (r : Stepped) (table table′ parts out :
       }
   table-wide false u g = record { says = g .says; memory = kept-there (g .memory) }
 
-  pub table-gives : Gives (fitting at (tableLent table) (tableStep job at n)) r (tableLent table)
-      (tableLent table′)
-      → Gives (fitting at (lending table parts out) (tableStep job at n)) r
-      (lending table parts out) (lending table′ parts out)
-  table-gives = go (tableField job at n)
+  pub table-gives : tagAt job (s .at) ≡ 2
+      → Gives (fitting (s .at) (tableLent table) (tableStep job (s .at) (s .taxa))) r
+      (tableLent table) (tableLent table′)
+      → Gives (tagged job s (lending table parts out)) r (lending table parts out)
+      (lending table′ parts out)
+  unfolding taggedStepOf
+  table-gives e h = rw e (go (tableField job at n) h)
     where
       go : (x : Said (List ℕ)) → Gives (fitting at (tableLent table) (after at x (putStep at n))) r
           (tableLent table) (tableLent table′)
@@ -160,13 +156,13 @@ module _ (job : List ℕ) (s : State) (r : Stepped) (table parts parts′ out : 
         memory = ap (λ (x : Lent). lending table (x .parts) out) (g .memory);
       }
 
-  pub partition-gives :
-      Gives (fitting (s .at) (partsLent parts) (partitionStep job (knownOf s (partsLent parts)))) r
-      (partsLent parts) (partsLent parts′)
-      → Gives (fitting (s .at) (lending table parts out)
-      (partitionStep job (knownOf s (lending table parts out)))) r (lending table parts out)
+  pub partition-gives : tagAt job (s .at) ≡ 3
+      → Gives (fitting (s .at) (partsLent parts) (partitionStep job (knownOf s (partsLent parts))))
+      r (partsLent parts) (partsLent parts′)
+      → Gives (tagged job s (lending table parts out)) r (lending table parts out)
       (lending table parts′ out)
-  partition-gives = go (partitionField job (s .at) (s .taxa))
+  unfolding taggedStepOf
+  partition-gives e h = rw e (go (partitionField job (s .at) (s .taxa)) h)
     where
       by : (ts os : List ℕ) → Said ℕ → Outcome
       by ts os x =
@@ -193,71 +189,86 @@ module _ (job : List ℕ) (s : State) (r : Stepped) (table parts parts′ out : 
                 (g .memory);
           }
 
+-- ---- a move
+pub move-gives : (job : List ℕ) (s : State) (r : Stepped) {m m′ : Lent}
+    → (tagAt job (s .at) ≡ 1 → ⊥) → (tagAt job (s .at) ≡ 2 → ⊥) → (tagAt job (s .at) ≡ 3 → ⊥)
+    → Gives (fitting (s .at) m (moveStep job (knownOf s m))) r m m′
+    → Gives (tagged job s m) r m m′
+unfolding taggedStepOf
+move-gives job s r a b c g =
+    let tag = tagAt job (s .at) in rw (ne-eqb tag 1 a, ne-eqb tag 2 b, ne-eqb tag 3 c) g
+
 -- ---- the end of a job, 16 before a field, and a tag that is not allowed
-module _ (job : List ℕ) (s : State) (m : Lent) where
+-- The outcome of a step over the next field.
+abbrev o : List ℕ → State → Lent → Outcome
+o job s m = fitting (s .at) m (field job (knownOf s m))
+
+-- What the end of a job gives is told, and leaves the memory.
+pub end-gives : (job : List ℕ) (s : State) (r : Stepped) {m : Lent} → length job ≤ s .at
+    → steppedSays r ≡ tells toldOf (endStep (length job) (knownOf s m)) → Gives (o job s m) r m m
+unfolding fieldOf
+end-gives job s r {m} a e =
+    call-is (ap (λ (b : Bool). fitting (s .at) m
+    (pick b (endStep (length job) k) (tagStep job k (tagAt job (s .at)))))
+    (sym (le-leb (length job) (s .at) a)))
+    (go (judged ((leb 1 (length (k .parts)) else Refusal.Field)
+    ∷ (seenSoFar k else Refusal.Unseen) ∷ []) (tt {0})) e)
+  where
+    k : Known
+    k = knownOf s m
+
+    go : (x : Said (Unit {0}))
+        → steppedSays r ≡ tells toldOf (after (length job) x (λ u. gives over))
+        → Gives (fitting (s .at) m (after (length job) x (λ u. gives over))) r m m
+    go (gives u) w = record { says = w; memory = refl }
+    go (refuses j) w = record { says = w; memory = refl }
+    go (refusesAt j q) w = record { says = w; memory = refl }
+
+-- A state that passes its checks stands at a field.
+pub record AtField (job : List ℕ) (s : State) (m : Lent) : Type 0 where
+  pub held : Held s m
+  pub inside : s .at < length job
+
+module _ {job : List ℕ} {s : State} {m : Lent} (F : AtField job s m) where
   abbrev k : Known
   k = knownOf s m
 
   abbrev tag : ℕ
   tag = tagAt job (s .at)
 
-  abbrev o : Outcome
-  o = fitting (s .at) m (field job k)
+  -- The checks before a field: 16, and whether its tag is allowed.
+  abbrev ok : Bool
+  ok = allowed (s .at) (length (k .parts)) (s .moves) tag
 
-  -- What the end of a job gives is told, and leaves the memory.
-  pub end-gives : (r : Stepped) → length job ≤ s .at
-      → steppedSays r ≡ tells toldOf (endStep (length job) k) → Gives o r m m
+  abbrev by : Said (Unit {0}) → Outcome
+  by x = fitting (s .at) m (after (s .at) x (λ u. taggedStep job k tag))
+
+  at-field : o job s m ≡ by (judged
+      (((eqb tag 3 || seenSoFar k) else Refusal.Unseen) ∷ (ok else Refusal.Field) ∷ []) tt)
   unfolding fieldOf
-  end-gives r a e =
-      call-is (ap (λ (b : Bool). fitting (s .at) m
+  at-field = ap (λ (b : Bool). fitting (s .at) m
       (pick b (endStep (length job) k) (tagStep job k tag)))
-      (sym (le-leb (length job) (s .at) a)))
-      (go (judged ((leb 1 (length (k .parts)) else Refusal.Field)
-      ∷ (seenSoFar k else Refusal.Unseen) ∷ []) (tt {0})) e)
-    where
-      go : (x : Said (Unit {0}))
-          → steppedSays r ≡ tells toldOf (after (length job) x (λ u. gives over))
-          → Gives (fitting (s .at) m (after (length job) x (λ u. gives over))) r m m
-      go (gives u) w = record { says = w; memory = refl }
-      go (refuses j) w = record { says = w; memory = refl }
-      go (refusesAt j q) w = record { says = w; memory = refl }
+      (lt-leb (length job) (s .at) (F .inside))
 
-  module _ (h : Held s m) (a : s .at < length job) where
-    -- The checks before a field: 16, and whether its tag is allowed.
-    abbrev ok : Bool
-    ok = allowed (s .at) (length (k .parts)) (s .moves) tag
+  pub tag-16 : (eqb tag 3 || seenSoFar (knownOf s m)) ≡ false
+      → o job s m ≡ refusesAt Refusal.Unseen (s .at)
+  tag-16 e = at-field ∙ ap by
+      (judged-fail (eqb tag 3 || seenSoFar k) Refusal.Unseen ((ok else Refusal.Field) ∷ []) tt e)
 
-    abbrev by : Said (Unit {0}) → Outcome
-    by x = fitting (s .at) m (after (s .at) x (λ u. taggedStep job k tag))
+  module _ (e : (eqb tag 3 || seenSoFar (knownOf s m)) ≡ true) where
+    past-16 : o job s m ≡ by (judged ((ok else Refusal.Field) ∷ []) tt)
+    past-16 = at-field ∙ ap by
+        (judged-next (eqb tag 3 || seenSoFar k) Refusal.Unseen ((ok else Refusal.Field) ∷ []) tt e)
 
-    at-field : o ≡ by (judged
-        (((eqb tag 3 || seenSoFar k) else Refusal.Unseen) ∷ (ok else Refusal.Field) ∷ []) tt)
-    unfolding fieldOf
-    at-field = ap (λ (b : Bool). fitting (s .at) m
-        (pick b (endStep (length job) k) (tagStep job k tag))) (lt-leb (length job) (s .at) a)
+    held : ok ≡ allowed (s .at) (s .parts) (s .moves) tag
+    held = ap (λ (c : ℕ). allowed (s .at) c (s .moves) tag) (parts-held (F .held))
 
-    pub tag-16 : (eqb tag 3 || seenSoFar (knownOf s m)) ≡ false
-        → o ≡ refusesAt Refusal.Unseen (s .at)
-    tag-16 e = at-field ∙ ap by
-        (judged-fail (eqb tag 3 || seenSoFar k) Refusal.Unseen ((ok else Refusal.Field) ∷ []) tt e)
+    pub tag-12 : allowed (s .at) (s .parts) (s .moves) tag ≡ false
+        → Gives (o job s m) (Stepped.Refused Refusal.Field (s .at)) m m
+    tag-12 w = call-refusesAt Refusal.Field (s .at)
+        (past-16 ∙ ap by (judged-fail ok Refusal.Field [] tt (held ∙ w)))
 
-    module _ (e : (eqb tag 3 || seenSoFar (knownOf s m)) ≡ true) where
-      past-16 : o ≡ by (judged ((ok else Refusal.Field) ∷ []) tt)
-      past-16 = at-field ∙ ap by
-          (judged-next (eqb tag 3 || seenSoFar k) Refusal.Unseen ((ok else Refusal.Field) ∷ []) tt
-          e)
-
-      held : ok ≡ allowed (s .at) (s .parts) (s .moves) tag
-      held = ap (λ (c : ℕ). allowed (s .at) c (s .moves) tag) (parts-held s m h)
-
-      pub tag-12 : allowed (s .at) (s .parts) (s .moves) tag ≡ false
-          → o ≡ refusesAt Refusal.Field (s .at)
-      tag-12 w = past-16 ∙ ap by (judged-fail ok Refusal.Field [] tt (held ∙ w))
-
-      pub tag-next : allowed (s .at) (s .parts) (s .moves) tag ≡ true
-          → fitting (s .at) m (taggedStep job k tag) ≡ o
-      unfolding judged
-      tag-next w = sym (past-16 ∙ ap by (judged-next ok Refusal.Field [] tt (held ∙ w)))
-
-pub far-offset : (at : ℕ) → 4 ≤ at → (at ≡ 4 → ⊥) → 4 < at
-far-offset at l d = omega (arith, l, d)
+    pub tag-next : allowed (s .at) (s .parts) (s .moves) tag ≡ true
+        → fitting (s .at) m (taggedStep job k tag) ≡ o job s m
+    unfolding judged
+    tag-next w = sym (past-16 ∙ ap by (judged-next ok Refusal.Field [] tt (held ∙ w)))

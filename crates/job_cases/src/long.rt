@@ -2,6 +2,7 @@
 ghost use Prim.Native.Nat.{_≤_};
 ghost use lib.ListN.{length};
 use case_lines::feeds;
+use case_lines::first;
 use case_prints::line;
 use case_prints::say;
 use job_steps::Stepped;
@@ -28,7 +29,8 @@ pub fn count(input: &[u8]) {
     loop {
         match job::step(input, s, &mut tree, &mut parts, &mut out) {
             Stepped::Next { state, wrote } => {
-                lines = std::num::wrapping_add_u64(lines, feeds(&out[..wrote]));
+                let more = feeds(first(&out, wrote));
+                lines = std::num::wrapping_add_u64(lines, more);
                 last = wrote;
                 s = state;
             }

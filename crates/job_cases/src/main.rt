@@ -6,7 +6,7 @@ use case_lines::first;
 use case_lines::head;
 use case_lines::title;
 use case_lines::word;
-use case_lists::bytes;
+use case_lists::given;
 use case_prints::line;
 use case_prints::put;
 use case_prints::say;
@@ -56,8 +56,7 @@ fn on_job(l: &[u8], job: &[u8]) {
 // Runs the case in a line.
 fn case(input: &[u8], l: &[u8]) {
     let mut j = io::large_buffer();
-    let long = bytes(input, word(l, 2), &mut j);
-    on_job(l, first(&j, long));
+    on_job(l, given(input, word(l, 2), &mut j));
 }
 
 // Runs the cases in their order.
@@ -76,6 +75,5 @@ fn run(input: &[u8]) {
 // Reads the cases and runs them.
 fn main() {
     let mut input = io::large_buffer();
-    let got = case_lines::read(&mut input);
-    run(first(&input, got));
+    run(case_lines::read(&mut input));
 }

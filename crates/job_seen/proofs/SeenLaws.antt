@@ -10,22 +10,22 @@ use lib.Seq.{length-take-le}
 use borrow.Author.Tests.{le-ltb, lt-ltb, lt-leb, le-leb, ne-eqb, eq-eqb}
 use Rattle.calls.specs.declared.Refusal.{Refusal}
 use Rattle.taxa.proofs.Bools.{and-false-r}
-use Rattle.calls.specs.Calls.{Said, gives, refusesAt, _else_}
+use Rattle.calls.specs.Calls.{Said, gives, refusesAt, tells, _else_}
 use Rattle.tree.specs.Refusals.{allSeen}
 use Rattle.calls.proofs.CheckLaws.{judged-all, judged-next, judged-fail}
 use Rattle.job_steps.specs.Job.{Known, over, after, partsRead, seenSoFar, endStep}
-use Rattle.job_steps.specs.Steps.{lending, knownOf}
+use Rattle.job_steps.specs.Steps.{lending, knownOf, Told, ended, toldOf}
 use Rattle.job_steps.specs.Between.{Parted}
 use Rattle.job_steps.specs.declared.State.{State}
 
-module _ (s : State) (parts : List ℕ) (h : Parted s parts) where
+module _ {s : State} {parts : List ℕ} (h : Parted s parts) where
   abbrev k : Known
   k = knownOf s (lending [] parts [])
 
   abbrev ys : List ℕ
   ys = take (s .parts) parts
 
-  count : length ys ≡ s .parts
+  pub count : length (take (s .parts) parts) ≡ s .parts
   count = length-take-le (s .parts) parts (h .for-parts)
 
   -- ---- where 16 is not looked for
@@ -48,9 +48,9 @@ module _ (s : State) (parts : List ℕ) (h : Parted s parts) where
       ∙ and-false-r (ltb 4 (s .at) && leb 1 (length ys)))
 
   -- ---- where it is
-  pub seen-all : 4 < s .at → (s .parts ≡ 0 → ⊥) → s .moves ≡ 0 → (b : Bool)
+  pub seen-all : 4 < s .at → (s .parts ≡ 0 → ⊥) → s .moves ≡ 0 → {b : Bool}
       → b ≡ allSeen (s .taxa) ys → b ≡ seenSoFar k
-  seen-all l d e b w =
+  seen-all l d e w =
       let read : partsRead k ≡ true =
       rw (
         lt-ltb 4 (s .at) l,
@@ -60,26 +60,31 @@ module _ (s : State) (parts : List ℕ) (h : Parted s parts) where
       w ∙ sym (ap (λ (c : Bool). not c || allSeen (s .taxa) ys) read)
 
   -- ---- at the end of a job of so many bytes
-  module _ (long : ℕ) where
-    abbrev some : Bool
-    some = leb 1 (length ys)
+  abbrev some : Bool
+  some = leb 1 (length ys)
 
-    pub end-12 : s .parts ≡ 0 → endStep long k ≡ refusesAt Refusal.Field long
-    end-12 e = ap (λ (x : Said (Unit {0})). after long x (λ u. gives over))
-        (judged-fail some Refusal.Field ((seenSoFar k else Refusal.Unseen) ∷ []) (tt {0})
-        (lt-leb 1 (length ys) (omega (arith, count, e))))
+  -- what is told of the end, by its checks
+  abbrev end-told : ℕ → Said (Unit {0}) → Said Told
+  end-told long x = tells toldOf (after long x (λ u. gives over))
 
-    module _ (d : s .parts ≡ 0 → ⊥) where
-      read : some ≡ true
-      read = le-leb 1 (length ys) (omega (arith, count, d))
+  pub end-12 : {long : ℕ} → s .parts ≡ 0
+      → refusesAt Refusal.Field long ≡ tells toldOf (endStep long k)
+  end-12 {long} e = sym (ap (end-told long)
+      (judged-fail some Refusal.Field ((seenSoFar k else Refusal.Unseen) ∷ []) (tt {0})
+      (lt-leb 1 (length ys) (omega (arith, count, e)))))
 
-      pub end-16 : seenSoFar k ≡ false → endStep long k ≡ refusesAt Refusal.Unseen long
-      end-16 e =
-          ap (λ (x : Said (Unit {0})). after long x (λ u. gives over))
-          (judged-next some Refusal.Field ((seenSoFar k else Refusal.Unseen) ∷ []) (tt {0}) read
-          ∙ judged-fail (seenSoFar k) Refusal.Unseen [] (tt {0}) e)
+  module _ (d : s .parts ≡ 0 → ⊥) where
+    read : some ≡ true
+    read = le-leb 1 (length ys) (omega (arith, count, d))
 
-      pub end-over : seenSoFar k ≡ true → endStep long k ≡ gives over
-      end-over e = ap (λ (x : Said (Unit {0})). after long x (λ u. gives over))
-          (judged-all ((some else Refusal.Field) ∷ (seenSoFar k else Refusal.Unseen) ∷ []) (tt {0})
-          (read, (e, tt)))
+    pub end-16 : {long : ℕ} → seenSoFar k ≡ false
+        → refusesAt Refusal.Unseen long ≡ tells toldOf (endStep long k)
+    end-16 {long} e =
+        sym (ap (end-told long)
+        (judged-next some Refusal.Field ((seenSoFar k else Refusal.Unseen) ∷ []) (tt {0}) read
+        ∙ judged-fail (seenSoFar k) Refusal.Unseen [] (tt {0}) e))
+
+    pub end-over : (long : ℕ) → seenSoFar k ≡ true → gives ended ≡ tells toldOf (endStep long k)
+    end-over long e = sym (ap (end-told long)
+        (judged-all ((some else Refusal.Field) ∷ (seenSoFar k else Refusal.Unseen) ∷ []) (tt {0})
+        (read, (e, tt))))

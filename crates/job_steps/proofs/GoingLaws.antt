@@ -50,7 +50,7 @@ going-field job s m (too-long l roomy) =
     (field job (knownOf s m))) (lt-ltb longest (length job) l))
 going-field job s m (under-way k short sound s-is holds roomy) =
     ap (λ (x : State). stepped job x m) s-is
-    ∙ step-is-field job short k sound m roomy (ap (λ (x : State). knownOf x m) (sym s-is) ∙ holds)
+    ∙ step-is-field job short sound roomy (ap (λ (x : State). knownOf x m) (sym s-is) ∙ holds)
     ∙ ap (field job) (sym holds)
     ∙ sym (ap (λ (b : Bool). pick b (refusesAt Refusal.Long 0) (field job (knownOf s m)))
     (le-ltb longest (length job) short))
@@ -71,7 +71,7 @@ going-next {job} {s} {t} {m} {m′} {r} {w} (under-way k short sound s-is holds 
     is : stepped job s m ≡ field job k
     is =
         ap (λ (x : State). stepped job x m) s-is
-        ∙ step-is-field job short k sound m roomy (ap (λ (x : State). knownOf x m) (sym s-is)
+        ∙ step-is-field job short sound roomy (ap (λ (x : State). knownOf x m) (sym s-is)
         ∙ holds)
 
     go : (o : Outcome) → field job k ≡ o → Going job t m′
@@ -81,9 +81,9 @@ going-next {job} {s} {t} {m} {m′} {r} {w} (under-way k short sound s-is holds 
         let t-is : t ≡ stateOf k′ = cc in
         let m-is : m′ ≡ lentBy (next k′ ls) m =
         g .memory ∙ ap (λ (x : Outcome). lentThen lentBy x m) (is ∙ h) in
-        under-way k′ short (sound-next job k sound k′ ls h) t-is
-        (ap₂ knownOf t-is m-is ∙ memory-keeps job short k sound m roomy k′ ls h)
-        (subst Roomy (sym m-is) (memory-roomy job short k sound m roomy k′ ls h))
+        under-way k′ short (sound-next sound k′ ls h) t-is
+        (ap₂ knownOf t-is m-is ∙ memory-keeps job short sound roomy k′ ls h)
+        (subst Roomy (sym m-is) (memory-roomy job short sound roomy k′ ls h))
     go (gives over) h =
         let e : gives (told t w) ≡ gives ended = answer ∙ ap (tells toldOf) (is ∙ h) in
         absurd (let z : _≡_ {A = ℕ} 0 1 = cc in omega arith)

@@ -25,16 +25,15 @@ use Rattle.calls.specs.Calls.{gives, refusesAt, lentThen, refuses}
 use Rattle.calls.specs.Refusals.{numberOf}
 
 -- From what is known on, the steps write the listing.
-run-from : (job : List ℕ) → length job ≤ longest → (f : ℕ) (k : Known) (m : Lent) → Sound job k
+run-from : {job : List ℕ} → length job ≤ longest → (f : ℕ) (k : Known) (m : Lent) → Sound job k
     → Roomy m → knownOf (stateOf k) m ≡ k
     → run f job (stateOf k) m ≡ listingFrom f job k
 unfolding run listingFromOf linesAfter
-run-from job short zero k m s roomy e = refl
-run-from job short (suc f) k m s roomy e =
+run-from short zero k m s roomy e = refl
+run-from {job} short (suc f) k m s roomy e =
     ap (λ (o : Outcome). linesAfter (k .moves) o
-    (λ k′. run f job (stateOf k′) (lentThen lentBy o m)))
-    (step-is-field job short k s m roomy e)
-    ∙ go (run-from job short f) (field job k) refl
+    (λ k′. run f job (stateOf k′) (lentThen lentBy o m))) (step-is-field job short s roomy e)
+    ∙ go (run-from short f) (field job k) refl
   where
     go : ((k′ : Known) (m′ : Lent) → Sound job k′ → Roomy m′ → knownOf (stateOf k′) m′ ≡ k′
         → run f job (stateOf k′) m′ ≡ listingFrom f job k′)
@@ -43,9 +42,8 @@ run-from job short (suc f) k m s roomy e =
         ≡ linesAfter (k .moves) o (listingFrom f job)
     go ih (gives (next k′ ls)) h =
         ap (λ (l : List ℕ). ls ++ l)
-        (ih k′ (lentBy (next k′ ls) m) (sound-next job k s k′ ls h)
-        (memory-roomy job short k s m roomy k′ ls h)
-        (memory-keeps job short k s m roomy k′ ls h))
+        (ih k′ (lentBy (next k′ ls) m) (sound-next s k′ ls h)
+        (memory-roomy job short s roomy k′ ls h) (memory-keeps job short s roomy k′ ls h))
     go ih (gives over) h = refl
     go ih (refuses r) h = refl
     go ih (refusesAt r p) h = refl
@@ -65,7 +63,7 @@ from-more job (suc f) k s l = go (from-more job f) (field job k) refl
         ≡ linesAfter (k .moves) o (listingFrom f job)
     go ih (gives (next k′ ls)) h =
         let up = field-forward job k k′ ls h .0 in
-        ap (λ (l : List ℕ). ls ++ l) (ih k′ (sound-next job k s k′ ls h) (omega (arith, up, l)))
+        ap (λ (l : List ℕ). ls ++ l) (ih k′ (sound-next s k′ ls h) (omega (arith, up, l)))
     go ih (gives over) h = refl
     go ih (refuses r) h = refl
     go ih (refusesAt r p) h = refl
@@ -119,7 +117,7 @@ run-is-listing job m f roomy l =
         → run (suc (length job + extra)) job first m ≡ listing job
     go (inl w) = run-long (length job + extra) job m w ∙ sym (listing-long job w)
     go (inr w) =
-        run-from job (ltb-false longest (length job) w) (suc (length job + extra)) nothing m
+        run-from (ltb-false longest (length job) w) (suc (length job + extra)) nothing m
         (sound-start job) roomy refl
         ∙ ap (λ (g : ℕ). listingFrom g job nothing) (omega arith)
         ∙ steps-enough job extra
@@ -146,7 +144,7 @@ closes-from job (suc f) k s l = go (closes-from job f) (field job k) refl
         → (o : Outcome) → field job k ≡ o → Closes (linesAfter (k .moves) o (listingFrom f job))
     go ih (gives (next k′ ls)) h =
         let up = field-forward job k k′ ls h .0 in
-        behind ls (listingFrom f job k′) (ih k′ (sound-next job k s k′ ls h) (omega (arith, up, l)))
+        behind ls (listingFrom f job k′) (ih k′ (sound-next s k′ ls h) (omega (arith, up, l)))
     go ih (gives over) h = by-end [] (k .moves) refl
     go ih (refuses r) h = by-refusal [] (numberOf r) 0 refl
     go ih (refusesAt r p) h = by-refusal [] (numberOf r) p refl

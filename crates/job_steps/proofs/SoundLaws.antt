@@ -41,20 +41,20 @@ use Rattle.job_steps.proofs.Turns.{turn}
 -- ---- what each stage says
 
 -- Between n and the table n is right.
-count-right : (k : Known) → k .at ≡ 4 → Stage k → (leb 4 (k .taxa) && leb (k .taxa) most) ≡ true
-count-right k a (at-start e) = let z = ap (λ (x : Known). x .at) e in absurd (omega arith)
-count-right k a (at-table b big few t p m) =
+count-right : {k : Known} → k .at ≡ 4 → Stage k → (leb 4 (k .taxa) && leb (k .taxa) most) ≡ true
+count-right a (at-start e) = let z = ap (λ (x : Known). x .at) e in absurd (omega arith)
+count-right {k} a (at-table b big few t p m) =
     and-both (leb 4 (k .taxa)) (leb (k .taxa) most) (le-leb 4 (k .taxa) big)
     (le-leb (k .taxa) most few)
-count-right k a (past-table l t p) = absurd (omega arith)
+count-right a (past-table l t p) = absurd (omega arith)
 
 -- After the table it is accepted, and each partition is right.
-past : (k : Known) → (k .at ≡ 0 → ⊥) → (k .at ≡ 4 → ⊥) → Stage k
+past : {k : Known} → (k .at ≡ 0 → ⊥) → (k .at ≡ 4 → ⊥) → Stage k
     → (4 < k .at) × Accepted (k .taxa) (k .table)
     × (each (λ y. ltb y (2 ^ k .taxa)) (k .parts) ≡ true)
-past k a b (at-start e) = absurd (a (ap (λ (x : Known). x .at) e))
-past k a b (at-table e big few t p m) = absurd (b e)
-past k a b (past-table l t p) = (l, t, p)
+past a b (at-start e) = absurd (a (ap (λ (x : Known). x .at) e))
+past a b (at-table e big few t p m) = absurd (b e)
+past a b (past-table l t p) = (l, t, p)
 
 -- A test that holds of each number on a list and of one more holds of each
 -- with it.
@@ -104,7 +104,7 @@ sound-start job =
       stage = at-start refl;
     }
 
-module _ (job : List ℕ) (k : Known) (s : Sound job k) where
+module _ {job : List ℕ} {k : Known} (s : Sound job k) where
   -- After n.
   sound-taxa : (n : ℕ) → withTaxa (k .at) n .at ≤ length job → k .at ≡ 0
       → (leb 4 n && leb n most) ≡ true
@@ -131,14 +131,14 @@ module _ (job : List ℕ) (k : Known) (s : Sound job k) where
         few-moves = omega arith;
         few-parts = omega arith;
         seen = λ d. absurd (d refl);
-        stage = past-table (omega arith) (pass-accepted (k .taxa) t (count-right k a (s .stage), p))
+        stage = past-table (omega arith) (pass-accepted (k .taxa) t (count-right a (s .stage), p))
             refl;
       }
 
   module _ (a : k .at ≡ 0 → ⊥) (b : k .at ≡ 4 → ⊥) where
     abbrev read : (4 < k .at) × Accepted (k .taxa) (k .table)
         × (each (λ y. ltb y (2 ^ k .taxa)) (k .parts) ≡ true)
-    read = past k a b (s .stage)
+    read = past a b (s .stage)
 
     -- After a partition.
     sound-partition : (y : ℕ) → withPartition k y .at ≤ length job
@@ -194,8 +194,8 @@ dist-few n t u y a b l =
       a .few,
       lacks-most (splits n t y) (splits n u y),
       lacks-most (splits n u y) (splits n t y),
-      members-count n t y (a .valid) w,
-      members-count n u y (b .valid) w,
+      members-count y (a .valid) w,
+      members-count y (b .valid) w,
       members-is (size n y),
       size-le n y,
     )
@@ -235,9 +235,9 @@ move-lines-few n t u ys k a b hk few h =
     )
 
 -- So a step's lines fit memory for one move's.
-pub lines-few : (job : List ℕ) (k : Known) → Sound job k → k .moves ≤ longest
+pub lines-few : {job : List ℕ} {k : Known} → Sound job k → k .moves ≤ longest
     → (k′ : Known) (ls : List ℕ) → field job k ≡ gives (next k′ ls) → length ls ≤ enough
-lines-few job k s few k′ ls h = go (turn job k k′ ls h)
+lines-few {job} {k} s few k′ ls h = go (turn job k k′ ls h)
   where
     none : ls ≡ [] → length ls ≤ enough
     none e = omega (arith, ap length e)
@@ -247,7 +247,7 @@ lines-few job k s few k′ ls h = go (turn job k k′ ls h)
     go (read-table t a c p e l) = none l
     go (read-partition y a b c d r e l) = none l
     go (read-move m a b c all p e l) =
-        let w = past k a b (s .stage) in
+        let w = past a b (s .stage) in
         omega (
           arith,
           ap length l,

@@ -1,6 +1,6 @@
 -- The tests of a state, and the step after them: what the code gives at each
 -- of its returns is the outcome. Assumes nothing.
-use mathlib.Core.Path.{_≡_, refl, sym, ap, ap₂, _∙_}
+use mathlib.Core.Path.{_≡_, refl, sym, ap, _∙_}
 use mathlib.Core.Bool.{Bool, true, false, _&&_, _||_, and-true}
 use mathlib.Core.List.{List, [], _∷_}
 use Prim.Native.Nat.{ℕ, _*_, _≤_, _<_}
@@ -13,25 +13,27 @@ use Rattle.taxa.specs.Sets.{pick}
 use Rattle.taxa.proofs.Bools.{and-left, and-right, and-both, and-false-r}
 use Rattle.tree.specs.Tree.{rows}
 use Rattle.calls.specs.Calls.{Check, Said, gives, refuses, judged, refusesAt, _else_}
+use Rattle.calls.proofs.CallLaws.{call-refusesAt}
 use Rattle.calls.proofs.CheckLaws.{judged-next, judged-fail, gives-pass}
 use Rattle.calls.specs.declared.Refusal.{Refusal}
 use Rattle.job_steps.specs.Job.{Outcome, after, field, longest}
 use Rattle.job_steps.specs.Steps.{Lent, knownOf, holds, stateChecks, stateSaid}
 use Rattle.job_steps.specs.Between.{Parted, Held}
-use Rattle.job_steps.specs.Steps.{fitting, stepped, steppedSays}
+use Rattle.job_steps.specs.Steps.{fitting, stepped, steppedSays, Told, told, ended}
+use Rattle.job_steps.specs.Steps.{Steps}
 use Rattle.job_steps.specs.declared.State.{State}
 use Rattle.job_steps.specs.declared.Stepped.{Stepped}
 use Rattle.job_steps.specs.Runs.{enough}
 
--- ---- the first field, or 4 and more
-pub four-first : (at x : ℕ) → at ≡ 0 → true ≡ (eqb at 0 || leb 4 x)
-four-first at x h = sym (ap (λ (b : Bool). b || leb 4 x) (eq-eqb at 0 h))
+-- ---- a number is n, or b is so
+pub or-is : {x n : ℕ} (b : Bool) → x ≡ n → true ≡ (eqb x n || b)
+or-is {x} {n} b h = sym (ap (λ (c : Bool). c || b) (eq-eqb x n h))
 
-pub four-later : (at x : ℕ) → (at ≡ 0 → ⊥) → leb 4 x ≡ (eqb at 0 || leb 4 x)
-four-later at x h = sym (ap (λ (b : Bool). b || leb 4 x) (ne-eqb at 0 h))
+pub or-not : {x n : ℕ} (b : Bool) → (x ≡ n → ⊥) → b ≡ (eqb x n || b)
+or-not {x} {n} b h = sym (ap (λ (c : Bool). c || b) (ne-eqb x n h))
 
 four-of : (at x : ℕ) → (eqb at 0 || leb 4 x) ≡ true → (at ≡ 0 → ⊥) → 4 ≤ x
-four-of at x e h = leb-true 4 x (four-later at x h ∙ e)
+four-of at x e h = leb-true 4 x (or-not (leb 4 x) h ∙ e)
 
 -- ---- what the memory has of a state
 module _ (s : State) (table parts : List ℕ) where
@@ -56,60 +58,68 @@ module _ (s : State) (table parts : List ℕ) where
     pub no-table : s .at ≤ 4 → true ≡ (has-table && has-parts)
     no-table l = sym (by-table ∙ ap (λ (b : Bool). b || leb t (length table)) (le-leb (s .at) 4 l))
 
-    pub some-table : 4 < s .at → (d : ℕ) → d ≡ t → leb d (length table) ≡ (has-table && has-parts)
-    some-table l d e =
+    pub some-table : 4 < s .at → {d : ℕ} → d ≡ t → leb d (length table) ≡ (has-table && has-parts)
+    some-table l e =
         ap (λ (j : ℕ). leb j (length table)) e
         ∙ sym (by-table ∙ ap (λ (b : Bool). b || leb t (length table)) (lt-leb (s .at) 4 l))
 
 -- ---- what is said of a state
+abbrev few : State → Bool
+few s = eqb (s .at) 0 || leb 4 (s .taxa)
+
+abbrev offset : State → Bool
+offset s = eqb (s .at) 0 || leb 4 (s .at)
+
+abbrev check-12 : State → Check
+check-12 s = (offset s && leb (s .moves) longest) else Refusal.Field
+
 module _ (s : State) (m : Lent) where
-  abbrev few : Bool
-  few = eqb (s .at) 0 || leb 4 (s .taxa)
-
-  abbrev offset : Bool
-  offset = eqb (s .at) 0 || leb 4 (s .at)
-
-  abbrev check-12 : Check
-  check-12 = (offset && leb (s .moves) longest) else Refusal.Field
-
   pub many-taxa : most < s .taxa → refuses Refusal.Count ≡ stateSaid s m
   many-taxa h =
-      sym (judged-fail (few && leb (s .taxa) most) Refusal.Count _ tt
-      (ap (λ (b : Bool). few && b) (lt-leb (s .taxa) most h) ∙ and-false-r few))
+      sym (judged-fail (few s && leb (s .taxa) most) Refusal.Count _ tt
+      (ap (λ (b : Bool). few s && b) (lt-leb (s .taxa) most h) ∙ and-false-r (few s)))
 
-  pub few-taxa : few ≡ false → refuses Refusal.Count ≡ stateSaid s m
+  pub few-taxa : few s ≡ false → refuses Refusal.Count ≡ stateSaid s m
   few-taxa h =
-      sym (judged-fail (few && leb (s .taxa) most) Refusal.Count _ tt
+      sym (judged-fail (few s && leb (s .taxa) most) Refusal.Count _ tt
       (ap (λ (b : Bool). b && leb (s .taxa) most) h))
 
-  module _ (a : s .taxa ≤ most) (b : few ≡ true) where
-    past-1 : stateSaid s m ≡ judged ((holds s m else Refusal.Room) ∷ check-12 ∷ []) (tt {0})
+  module _ (a : s .taxa ≤ most) (b : few s ≡ true) where
+    past-1 : stateSaid s m ≡ judged ((holds s m else Refusal.Room) ∷ check-12 s ∷ []) (tt {0})
     past-1 =
-        judged-next (few && leb (s .taxa) most) Refusal.Count _ tt
-        (and-both few (leb (s .taxa) most) b (le-leb (s .taxa) most a))
+        judged-next (few s && leb (s .taxa) most) Refusal.Count _ tt
+        (and-both (few s) (leb (s .taxa) most) b (le-leb (s .taxa) most a))
 
     pub short-memory : holds s m ≡ false → refuses Refusal.Room ≡ stateSaid s m
-    short-memory h = sym (past-1 ∙ judged-fail (holds s m) Refusal.Room (check-12 ∷ []) tt h)
+    short-memory h = sym (past-1 ∙ judged-fail (holds s m) Refusal.Room (check-12 s ∷ []) tt h)
 
-    module _ (d : holds s m ≡ true) where
-      past-11 : stateSaid s m ≡ judged (check-12 ∷ []) (tt {0})
-      past-11 = past-1 ∙ judged-next (holds s m) Refusal.Room (check-12 ∷ []) tt d
+-- The count of taxa is right, and the memory has what the state holds.
+pub record Remembered (s : State) (m : Lent) : Type 0 where
+  pub taxa-few : s .taxa ≤ most
+  pub taxa-big : (eqb (s .at) 0 || leb 4 (s .taxa)) ≡ true
+  pub has : holds s m ≡ true
 
-      pub no-offset : offset ≡ false → refuses Refusal.Field ≡ stateSaid s m
-      no-offset h =
-          sym (past-11 ∙ judged-fail (offset && leb (s .moves) longest) Refusal.Field [] tt
-          (ap (λ (c : Bool). c && leb (s .moves) longest) h))
+module _ {s : State} {m : Lent} (R : Remembered s m) where
+  past-11 : stateSaid s m ≡ judged (check-12 s ∷ []) (tt {0})
+  past-11 = past-1 s m (R .taxa-few) (R .taxa-big)
+      ∙ judged-next (holds s m) Refusal.Room (check-12 s ∷ []) tt (R .has)
 
-      pub many-moves : longest < s .moves → refuses Refusal.Field ≡ stateSaid s m
-      many-moves h =
-          sym (past-11 ∙ judged-fail (offset && leb (s .moves) longest) Refusal.Field [] tt
-          (ap (λ (c : Bool). offset && c) (lt-leb (s .moves) longest h) ∙ and-false-r offset))
+  refused-12 : (offset s && leb (s .moves) longest) ≡ false → refuses Refusal.Field ≡ stateSaid s m
+  refused-12 h =
+      sym (past-11 ∙ judged-fail (offset s && leb (s .moves) longest) Refusal.Field [] tt h)
 
-      pub is-right : offset ≡ true → s .moves ≤ longest → gives (tt {0}) ≡ stateSaid s m
-      unfolding judged
-      is-right f g =
-          sym (past-11 ∙ judged-next (offset && leb (s .moves) longest) Refusal.Field [] tt
-          (and-both offset (leb (s .moves) longest) f (le-leb (s .moves) longest g)))
+  pub no-offset : offset s ≡ false → refuses Refusal.Field ≡ stateSaid s m
+  no-offset h = refused-12 (ap (λ (c : Bool). c && leb (s .moves) longest) h)
+
+  pub many-moves : longest < s .moves → refuses Refusal.Field ≡ stateSaid s m
+  many-moves h = refused-12
+      (ap (λ (c : Bool). offset s && c) (lt-leb (s .moves) longest h) ∙ and-false-r (offset s))
+
+  pub is-right : offset s ≡ true → s .moves ≤ longest → gives (tt {0}) ≡ stateSaid s m
+  unfolding judged
+  is-right f g =
+      sym (past-11 ∙ judged-next (offset s && leb (s .moves) longest) Refusal.Field [] tt
+      (and-both (offset s) (leb (s .moves) longest) f (le-leb (s .moves) longest g)))
 
 -- ---- a state of which nothing is refused
 pub held-of : (s : State) (m : Lent) → stateSaid s m ≡ gives (tt {0}) → Held s m
@@ -117,19 +127,17 @@ held-of s m h =
     let p = gives-pass (stateChecks s m) tt tt h in
     let has-table = leb (s .at) 4 || leb (2 * rows (s .taxa)) (length (m .table)) in
     let has-parts = leb (s .parts) (length (m .parts)) in
-    let few = eqb (s .at) 0 || leb 4 (s .taxa) in
-    let offset = eqb (s .at) 0 || leb 4 (s .at) in
     record {
-      taxa-big = four-of (s .at) (s .taxa) (and-left few (leb (s .taxa) most) (p .0));
-      taxa-few = leb-true (s .taxa) most (and-right few (leb (s .taxa) most) (p .0));
+      taxa-big = four-of (s .at) (s .taxa) (and-left (few s) (leb (s .taxa) most) (p .0));
+      taxa-few = leb-true (s .taxa) most (and-right (few s) (leb (s .taxa) most) (p .0));
       for-table = λ l. leb-true (2 * rows (s .taxa)) (length (m .table))
           (sym (ap (λ (b : Bool). b || leb (2 * rows (s .taxa)) (length (m .table)))
           (lt-leb (s .at) 4 l))
           ∙ and-left has-table has-parts (p .1 .0));
       for-parts = leb-true (s .parts) (length (m .parts)) (and-right has-table has-parts (p .1 .0));
-      offset = four-of (s .at) (s .at) (and-left offset (leb (s .moves) longest) (p .1 .1 .0));
+      offset = four-of (s .at) (s .at) (and-left (offset s) (leb (s .moves) longest) (p .1 .1 .0));
       few-moves = leb-true (s .moves) longest
-          (and-right offset (leb (s .moves) longest) (p .1 .1 .0));
+          (and-right (offset s) (leb (s .moves) longest) (p .1 .1 .0));
     }
 
 -- The test of 16 asks less.
@@ -152,38 +160,38 @@ module _ (job : List ℕ) (s : State) (m : Lent) where
   pub step-13 : longest < length job → stepped job s m ≡ refusesAt Refusal.Long 0
   step-13 h = ap whole (lt-ltb longest (length job) h)
 
-  module _ (l : length job ≤ longest) where
-    past-13 : stepped job s m ≡ rest (stateSaid s m)
-    past-13 = ap whole (le-ltb longest (length job) l)
+-- The job is not too long, and x is said of the state.
+pub record StateSays (job : List ℕ) (s : State) (m : Lent) (x : Said (Unit {0})) : Type 0 where
+  pub short : length job ≤ longest
+  pub says : stateSaid s m ≡ x
 
-    pub step-refused : (k : Refusal) → stateSaid s m ≡ refuses k
-        → stepped job s m ≡ refusesAt k (s .at)
-    step-refused k h = past-13 ∙ ap rest h
+past-13 : {job : List ℕ} {s : State} {m : Lent} {x : Said (Unit {0})} → StateSays job s m x
+    → stepped job s m ≡ rest job s m x
+past-13 {job} {s} {m} S =
+    ap (whole job s m) (le-ltb longest (length job) (S .short)) ∙ ap (rest job s m) (S .says)
 
-    pub step-next : stateSaid s m ≡ gives (tt {0})
-        → fitting (s .at) m (field job (knownOf s m)) ≡ stepped job s m
-    step-next h = sym (past-13 ∙ ap rest h)
+pub step-refused : {job : List ℕ} {s : State} {m : Lent} {k : Refusal}
+    → StateSays job s m (refuses k) → Steps job s m (Stepped.Refused k (s .at)) m
+step-refused S = call-refusesAt _ _ (past-13 S)
+
+pub step-next : {job : List ℕ} {s : State} {m : Lent} → StateSays job s m (gives (tt {0}))
+    → fitting (s .at) m (field job (knownOf s m)) ≡ stepped job s m
+step-next S = sym (past-13 S)
 
 -- ---- an answer is settled by what it says
+
+-- The answer that says so.
+said-by : Said Told → Stepped
+said-by (gives (told s w)) = Stepped.Next s w
+said-by (gives ended) = Stepped.Ended
+said-by (refuses r) = Stepped.Ended
+said-by (refusesAt r p) = Stepped.Refused r p
+
+said-back : (a : Stepped) → said-by (steppedSays a) ≡ a
+unfolding said-by
+said-back (Stepped.Next s w) = refl
+said-back Stepped.Ended = refl
+said-back (Stepped.Refused r p) = refl
+
 pub stepped-one : (a b : Stepped) → steppedSays a ≡ steppedSays b → a ≡ b
-stepped-one (Stepped.Next s v) (Stepped.Next u w) h =
-    let e : s ≡ u = cc in
-    let f : v ≡ w = cc in
-    ap₂ Stepped.Next e f
-stepped-one (Stepped.Next s v) Stepped.Ended h =
-    absurd (let z : _≡_ {A = ℕ} 0 1 = cc in omega arith)
-stepped-one (Stepped.Next s v) (Stepped.Refused r p) h =
-    absurd (let z : _≡_ {A = ℕ} 0 1 = cc in omega arith)
-stepped-one Stepped.Ended (Stepped.Next u w) h =
-    absurd (let z : _≡_ {A = ℕ} 0 1 = cc in omega arith)
-stepped-one Stepped.Ended Stepped.Ended h = refl
-stepped-one Stepped.Ended (Stepped.Refused r p) h =
-    absurd (let z : _≡_ {A = ℕ} 0 1 = cc in omega arith)
-stepped-one (Stepped.Refused r p) (Stepped.Next u w) h =
-    absurd (let z : _≡_ {A = ℕ} 0 1 = cc in omega arith)
-stepped-one (Stepped.Refused r p) Stepped.Ended h =
-    absurd (let z : _≡_ {A = ℕ} 0 1 = cc in omega arith)
-stepped-one (Stepped.Refused r p) (Stepped.Refused q w) h =
-    let e : r ≡ q = cc in
-    let f : p ≡ w = cc in
-    ap₂ Stepped.Refused e f
+stepped-one a b h = sym (said-back a) ∙ ap said-by h ∙ said-back b

@@ -18,11 +18,12 @@ use Rattle.calls.specs.Calls.{Check, Said, gives, judged, atStart, refusesAt, t
 use Rattle.calls.specs.Calls.{lentThen}
 use Rattle.tree.specs.Refusals.{treeChecks, partitionsChecks, roomChecks}
 use Rattle.calls.proofs.CheckLaws.{judged-next, judged-fail}
-use Rattle.calls.proofs.CallLaws.{call-is, call-refused, call-given}
+use Rattle.calls.proofs.CallLaws.{call-is, call-refusesAt, call-refused, call-given}
 use Rattle.calls.specs.declared.Refusal.{Refusal}
 use Rattle.moves.specs.Moves.{Move, moved, moveChecks}
 use Rattle.moves.proofs.AnyMove.Named.{moved-length}
 use Rattle.fields.specs.Fields.{contentAt, moveIn, allowedOf, allowed, lengthRight}
+use Rattle.fields.proofs.FieldLaws.{Framed}
 use Rattle.lines.proofs.Placing.{placed-start}
 use Rattle.move_listing.specs.Listing.{linesOf, linesSaid, Page, page, Lists}
 use Rattle.move_listing.specs.declared.Lines.{Lines}
@@ -84,7 +85,7 @@ table-fits s table =
       length-append (heldTable s table) (drop (length (heldTable s table)) table),
     )
 
-module _ (s : State) (m : Lent) (h : Held s m) where
+module _ {s : State} {m : Lent} (h : Held s m) where
   pub parts-held : length (take (s .parts) (m .parts)) ≡ s .parts
   parts-held = length-take-le (s .parts) (m .parts) (h .for-parts)
 
@@ -131,14 +132,45 @@ outcome-of [] a f k ls at m e lt lp =
 outcome-of ((true else r) ∷ cs) a f k ls at m e lt lp = outcome-of cs a f k ls at m e lt lp
 outcome-of ((false else r) ∷ cs) a f k ls at m e lt lp = refl
 
-module _ (job : List ℕ) (s : State) (table parts out : List ℕ)
-    (h : Held s (lending table parts out))
-    (past : 4 < s .at) where
+-- What a step over a move gives.
+abbrev MoveGives : List ℕ → State → Lent → Stepped → Lent → Type 0
+MoveGives job s m r m′ = Gives (fitting (s .at) m (moveStep job (knownOf s m))) r m m′
+
+-- The outcome by the checks of the field and by the table, which is held.
+by-checks : State → Lent → Said Move → List ℕ → Outcome
+by-checks s m x u =
+    fitting (s .at) m
+    (after (s .at) x
+    (λ a. gives (next (record {
+      at = s .at + 7;
+      taxa = s .taxa;
+      table = moved (s .taxa) u a;
+      parts = take (s .parts) (m .parts);
+      moves = s .moves + 1;
+    })
+    (linesOf (s .taxa) u (take (s .parts) (m .parts)) a (s .moves + 1)))))
+
+pub move-12 : (job : List ℕ) (s : State) {m : Lent} → lengthRight job (s .at) 4 ≡ false
+    → MoveGives job s m (Stepped.Refused Refusal.Field (s .at)) m
+unfolding by-checks
+move-12 job s {m} e = call-refusesAt Refusal.Field (s .at)
+    (ap (λ (x : Said Move). by-checks s m x (knownOf s m .table))
+    (judged-fail (lengthRight job (s .at) 4) Refusal.Field _ (moveIn (contentAt job (s .at) 4)) e))
+
+-- The move a is read from the field of a state that passes its checks, past the table's field,
+-- with a table of d bytes.
+pub record MoveRead (job : List ℕ) (s : State) (table parts out : List ℕ) (d : ℕ) (a : Move)
+    : Type 0 where
+  pub held : Held s (lending table parts out)
+  pub past : 4 < s .at
+  pub framed : Framed job (s .at) 4
+  pub long : d ≡ 2 * rows (s .taxa)
+  pub is : a ≡ moveIn (contentAt job (s .at) 4)
+
+module _ {job : List ℕ} {s : State} {table parts out : List ℕ} {d : ℕ} {a : Move}
+    (R : MoveRead job s table parts out d a) where
   abbrev m : Lent
   m = lending table parts out
-
-  abbrev k : Known
-  k = knownOf s m
 
   abbrev l : ℕ
   l = 2 * rows (s .taxa)
@@ -152,36 +184,17 @@ module _ (job : List ℕ) (s : State) (table parts out : List ℕ)
   abbrev mv : Move
   mv = moveIn (contentAt job (s .at) 4)
 
-  abbrev right : Bool
-  right = lengthRight job (s .at) 4
-
-  abbrev o : Outcome
-  o = fitting (s .at) m (moveStep job k)
+  table-there : l ≤ length table
+  table-there = R .held .for-table (R .past)
 
   table-length : length t ≡ l
-  table-length = length-take-le l table (h .for-table past)
+  table-length = length-take-le l table table-there
 
-  pub table-part : (d : ℕ) → d ≡ l → d ≡ length (take d table)
-  table-part d e = sym (length-take-le d table (omega (arith, e, h .for-table past)))
+  pub part-there : d ≤ length table
+  part-there = omega (arith, R .long, table-there)
 
-  -- The outcome by the checks of the field and by the table, which is held.
-  by-checks : Said Move → List ℕ → Outcome
-  by-checks x u =
-      fitting (s .at) m
-      (after (s .at) x
-      (λ a. gives (next (record {
-        at = s .at + 7;
-        taxa = s .taxa;
-        table = moved (s .taxa) u a;
-        parts = ys;
-        moves = s .moves + 1;
-      })
-      (linesOf (s .taxa) u ys a (s .moves + 1)))))
-
-  pub move-12 : right ≡ false → o ≡ refusesAt Refusal.Field (s .at)
-  unfolding by-checks
-  move-12 e = ap (λ (x : Said Move). by-checks x (k .table))
-      (judged-fail right Refusal.Field _ mv e)
+  pub part-length : d ≡ length (take d table)
+  part-length = sym (length-take-le d table part-there)
 
   abbrev checks : List ℕ → List Check
   checks u = treeChecks (s .taxa) u ++ partitionsChecks (s .taxa) ys ++ moveChecks (s .taxa) u mv
@@ -204,67 +217,66 @@ module _ (job : List ℕ) (s : State) (table parts out : List ℕ)
   }
 
   moved-fits : length (k′ .table) ≤ length table
-  moved-fits = omega (arith, moved-length (s .taxa) t mv, table-length, h .for-table past)
+  moved-fits = omega (arith, moved-length (s .taxa) t mv, table-length, table-there)
 
-  same : right ≡ true → o ≡ withLines (s .at) k′ said
+  same : fitting (s .at) m (moveStep job (knownOf s m)) ≡ withLines (s .at) k′ said
   unfolding by-checks
-  same e =
-      ap (λ (x : Said Move). by-checks x (k .table)) (judged-next right Refusal.Field _ mv e)
-      ∙ ap (λ (u : List ℕ). by-checks (judged (checks u) mv) u) (table-held s m h past)
+  same =
+      ap (λ (x : Said Move). by-checks s m x (knownOf s m .table))
+      (judged-next (lengthRight job (s .at) 4) Refusal.Field _ mv (R .framed .right))
+      ∙ ap (λ (u : List ℕ). by-checks s m (judged (checks u) mv) u) (table-held (R .held) (R .past))
       ∙ outcome-of (checks t) mv _ k′ ls (s .at) m refl moved-fits
-      (omega (arith, parts-held s m h, h .for-parts))
+      (omega (arith, parts-held (R .held), R .held .for-parts))
 
   -- The state after the move.
   abbrev s′ : State
   s′ = record { at = s .at + 7; taxa = s .taxa; parts = s .parts; moves = s .moves + 1 }
 
-  module _ (e : right ≡ true) where
-    move-refused : (r : Refusal) (t′ out′ : List ℕ)
-        → Lists (s .taxa) ys mv (s .moves + 1) 0 (page t out) (Lines.Refused r) (page t′ out′)
-        → Gives o (Stepped.Refused r (s .at)) m (lending (t′ ++ drop l table) parts out′)
-    move-refused r t′ out′ L =
-        let w = call-refused L in
-        let q : o ≡ refusesAt r (s .at) = same e ∙ ap (withLines (s .at) k′) (w .0) in
-        let there : t′ ++ drop l table ≡ table =
-        ap (λ (p : Page). p .table ++ drop l table) (w .1) ∙ take-append-drop l table in
-        let kept : out′ ≡ out = ap (λ (p : Page). p .out) (w .1) in
-        call-is (sym q) (record {
-          says = refl;
-          memory = ap₂ (λ (x y : List ℕ). lending x parts y)
-              there kept;
-        })
+  move-refused : (r : Refusal) (t′ out′ : List ℕ)
+      → Lists (s .taxa) ys mv (s .moves + 1) 0 (page t out) (Lines.Refused r) (page t′ out′)
+      → MoveGives job s m (Stepped.Refused r (s .at)) (lending (t′ ++ drop l table) parts out′)
+  move-refused r t′ out′ L =
+      let w = call-refused L in
+      let q = same ∙ ap (withLines (s .at) k′) (w .0) in
+      let there : t′ ++ drop l table ≡ table =
+      ap (λ (p : Page). p .table ++ drop l table) (w .1) ∙ take-append-drop l table in
+      let kept : out′ ≡ out = ap (λ (p : Page). p .out) (w .1) in
+      call-is (sym q) (record {
+        says = refl;
+        memory = ap₂ (λ (x y : List ℕ). lending x parts y)
+            there kept;
+      })
 
-    move-done : (w : ℕ) (t′ out′ : List ℕ)
-        → Lists (s .taxa) ys mv (s .moves + 1) 0 (page t out) (Lines.To w) (page t′ out′)
-        → Gives o (Stepped.Next s′ w) m (lending (t′ ++ drop l table) parts out′)
-    move-done w t′ out′ L =
-        let g = call-given L in
-        let y = g .0 in
-        let q : o ≡ gives (next k′ y) = same e ∙ ap (withLines (s .at) k′) (g .1) in
-        let v : w ≡ length y = g .2 ∙ zero-add (length y) in
-        let there : t′ ++ drop l table ≡ atStart (k′ .table) table =
-        ap (λ (p : Page). p .table ++ drop l table) (g .3)
-        ∙ ap (λ (z : ℕ). moved (s .taxa) t mv ++ drop z table)
-        (sym (moved-length (s .taxa) t mv ∙ table-length)) in
-        let lines : out′ ≡ atStart y out = ap (λ (p : Page). p .out) (g .3) ∙ placed-start out y in
-        let state : s′ ≡ stateOf k′ =
-        ap (λ (i : ℕ). record { at = s .at + 7; taxa = s .taxa; parts = i; moves = s .moves + 1 })
-        (sym (parts-held s m h)) in
-        call-is (sym q) (record {
-          says = ap₂ (λ (x : State) (i : ℕ). gives (told x i)) state v;
-          memory = lending-same there (sym (put-taken (s .parts) parts)) lines;
-        })
+  move-done : (w : ℕ) (t′ out′ : List ℕ)
+      → Lists (s .taxa) ys mv (s .moves + 1) 0 (page t out) (Lines.To w) (page t′ out′)
+      → MoveGives job s m (Stepped.Next s′ w) (lending (t′ ++ drop l table) parts out′)
+  move-done w t′ out′ L =
+      let g = call-given L in
+      let y = g .0 in
+      let q = same ∙ ap (withLines (s .at) k′) (g .1) in
+      let v : w ≡ length y = g .2 ∙ zero-add (length y) in
+      let there : t′ ++ drop l table ≡ atStart (k′ .table) table =
+      ap (λ (p : Page). p .table ++ drop l table) (g .3)
+      ∙ ap (λ (z : ℕ). moved (s .taxa) t mv ++ drop z table)
+      (sym (moved-length (s .taxa) t mv ∙ table-length)) in
+      let lines : out′ ≡ atStart y out = ap (λ (p : Page). p .out) (g .3) ∙ placed-start out y in
+      let state : s′ ≡ stateOf k′ =
+      ap (λ (i : ℕ). record { at = s .at + 7; taxa = s .taxa; parts = i; moves = s .moves + 1 })
+      (sym (parts-held (R .held))) in
+      call-is (sym q) (record {
+        says = ap₂ (λ (x : State) (i : ℕ). gives (told x i)) state v;
+        memory = lending-same there (sym (put-taken (s .parts) parts)) lines;
+      })
 
-    -- The same as the code has the table's length and the move.
-    module _ (d : ℕ) (d-is : d ≡ l) (a : Move) (a-is : a ≡ mv) where
-      pub refused-there : {x : Lines} {r : Refusal} {t′ out′ : List ℕ} → x ≡ Lines.Refused r
-          → Lists (s .taxa) ys a (s .moves + 1) 0 (page (take d table) out) x (page t′ out′)
-          → Gives o (Stepped.Refused r (s .at)) m (lending (t′ ++ drop d table) parts out′)
-      refused-there {x} {r} {t′} {out′} x-is L =
-          rw d-is (move-refused r t′ out′ (rw (d-is, a-is, x-is) at L))
+  -- The same as the code has the table's length and the move.
+  pub refused-there : {x : Lines} {r : Refusal} {t′ out′ : List ℕ} → x ≡ Lines.Refused r
+      → Lists (s .taxa) ys a (s .moves + 1) 0 (page (take d table) out) x (page t′ out′)
+      → MoveGives job s m (Stepped.Refused r (s .at)) (lending (t′ ++ drop d table) parts out′)
+  refused-there {x} {r} {t′} {out′} x-is L =
+      rw (R .long) (move-refused r t′ out′ (rw (R .long, R .is, x-is) at L))
 
-      pub done-there : {x : Lines} {w : ℕ} {t′ out′ : List ℕ} → x ≡ Lines.To w
-          → Lists (s .taxa) ys a (s .moves + 1) 0 (page (take d table) out) x (page t′ out′)
-          → Gives o (Stepped.Next s′ w) m (lending (t′ ++ drop d table) parts out′)
-      done-there {x} {w} {t′} {out′} x-is L =
-          rw d-is (move-done w t′ out′ (rw (d-is, a-is, x-is) at L))
+  pub done-there : {x : Lines} {w : ℕ} {t′ out′ : List ℕ} → x ≡ Lines.To w
+      → Lists (s .taxa) ys a (s .moves + 1) 0 (page (take d table) out) x (page t′ out′)
+      → MoveGives job s m (Stepped.Next s′ w) (lending (t′ ++ drop d table) parts out′)
+  done-there {x} {w} {t′} {out′} x-is L =
+      rw (R .long) (move-done w t′ out′ (rw (R .long, R .is, x-is) at L))

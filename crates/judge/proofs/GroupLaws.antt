@@ -12,7 +12,7 @@ use borrow.Author.Tests.{le-ltb}
 use Rattle.tree.specs.Splits.{dist, distances}
 use Rattle.tree.specs.Refusals.{each}
 use Rattle.moves.specs.Groups.{stayed}
-use Rattle.moves.specs.Between.{planMoved, sideGroups, byGroups}
+use Rattle.moves.specs.Between.{planMoved, SideRight, sideGroups, byGroups}
 use Rattle.moves.specs.declared.Side.{Side}
 use Rattle.moves.specs.declared.Plan.{Plan}
 use Rattle.moves.proofs.AnyMove.Plans.{PlanRight, plan-right, plan-dist}
@@ -41,21 +41,16 @@ module _ {n : ℕ} {t near s : List ℕ} {p : Plan} (R : Ready n t near s p) whe
   ready-rewrites = record { good = R .looked .good; holds = R .looked .rows; plan = R .plan }
 
   -- ---- what the groups ask for
+  side-asked : {side : Side} {out : List ℕ} → SideRight n t (p .row) side → length out ≡ room
+      → Asked n t near s (p .row) side out
+  side-asked right l =
+      record { looked = R .looked; row = rights .row; right = right; for-groups = l }
+
   pub first-asked : {out : List ℕ} → length out ≡ room → Asked n t near s (p .row) (p .first) out
-  first-asked l = record {
-    looked = R .looked;
-    row = rights .row;
-    right = rights .first;
-    for-groups = l;
-  }
+  first-asked = side-asked (rights .first)
 
   pub second-asked : {out : List ℕ} → length out ≡ room → Asked n t near s (p .row) (p .second) out
-  second-asked l = record {
-    looked = R .looked;
-    row = rights .row;
-    right = rights .second;
-    for-groups = l;
-  }
+  second-asked = side-asked (rights .second)
 
   -- ---- those that were listed
   module _ {gs gs′ hs hs′ : List ℕ} {k j : ℕ}
@@ -73,12 +68,17 @@ module _ {n : ℕ} {t near s : List ℕ} {p : Plan} (R : Ready n t near s p) whe
       );
     }
 
-    pub listed-dist : (y : ℕ) → y < 2 ^ n
+    listed-dist : (y : ℕ) → y < 2 ^ n
         → byGroups (p .nni) (take k gs′) (take j hs′) y ≡ dist n t (planMoved n t p) y
     listed-dist y l =
         ap₂ (λ (x z : List ℕ). byGroups (p .nni) x z y) (wrote-take (g .wrote))
         (wrote-take (h .wrote))
         ∙ plan-dist (R .looked .good .valid) (R .plan) y l
+
+    pub listed-one : {y d : ℕ} → y < 2 ^ n
+        → d ≡ byGroups (p .nni) (take k gs′) (take j hs′) y
+        → d ≡ dist n t (planMoved n t p) y
+    listed-one {y} l e = e ∙ listed-dist y l
 
     pub listed-told : (ys out : List ℕ) {r : ℕ} {out′ : List ℕ}
         → each (λ y. ltb y (2 ^ n)) ys ≡ true

@@ -3,7 +3,6 @@
 use mathlib.Core.Path.{_≡_, refl, sym, ap, _∙_}
 use mathlib.Core.List.{List, []}
 use Prim.Native.Nat.{ℕ, _^_, _≤_, _<_}
-use native.Mathlib.Omega.{arith}
 use lib.Dec.{leb}
 use lib.ListN.{length}
 use borrow.Author.Tests.{le-leb, lt-leb, ltb-true}
@@ -21,7 +20,7 @@ use Rattle.moves.specs.declared.Plan.{Plan}
 use Rattle.move_plan.specs.declared.Entry.{Entry}
 use Rattle.door.specs.Between.{partsSaid, Entered, Opened}
 use Rattle.door.proofs.PartitionLaws.{no-parts}
-use Rattle.door.proofs.DoorLaws.{door-refuses, opened-says, opened-moved}
+use Rattle.door.proofs.DoorLaws.{door-refuses, door-opens, opened-says, opened-moved}
 use Rattle.judge.specs.declared.Moved.{Moved}
 use Rattle.judge.specs.declared.Judged.{Judged}
 use Rattle.judge.specs.declared.Verdict.{Verdict}
@@ -31,10 +30,12 @@ use Rattle.judge.specs.Between.{JudgesPlan}
 
 -- ---- a move alone
 module _ {n : ℕ} {t : List ℕ} {m : Move} {near s : List ℕ} where
-  pub moves-refused : {r : Entry} {k : Refusal} → Entered n t (gives tt) m r near s
-      → r ≡ Entry.Refused k
-      → Applies n t m (Moved.Refused k) t
-  moves-refused {k = k} e h = call-refuses k (door-refuses [] (no-parts n) e [] (moved n t m) h)
+  module _ {r : Entry} (e : Entered n t (gives tt) m r near s) where
+    pub moves-refused : {k : Refusal} → r ≡ Entry.Refused k → Applies n t m (Moved.Refused k) t
+    moves-refused {k = k} h = call-refuses k (door-refuses [] (no-parts n) e [] (moved n t m) h)
+
+    pub moves-opens : {p : Plan} → r ≡ Entry.Opens p → Opened n t near s [] m p
+    moves-opens = door-opens [] (no-parts n) e
 
   pub moves-done : {p : Plan} {t′ : List ℕ} → Opened n t near s [] m p → t′ ≡ planMoved n t p
       → Applies n t m Moved.Done t′
@@ -104,23 +105,18 @@ module _ (y : ℕ) {n : ℕ} {t : List ℕ} {m : Move} {near s : List ℕ} where
 -- ---- an answer is settled by what it says
 pub moved-one : (a b : Moved) → moveSays a ≡ moveSays b → a ≡ b
 moved-one Moved.Done Moved.Done h = refl
-moved-one Moved.Done (Moved.Refused s) h = absurd (let z : _≡_ {A = ℕ} 0 1 = cc in omega arith)
-moved-one (Moved.Refused r) Moved.Done h = absurd (let z : _≡_ {A = ℕ} 0 1 = cc in omega arith)
-moved-one (Moved.Refused r) (Moved.Refused s) h = let e : r ≡ s = cc in ap Moved.Refused e
+moved-one Moved.Done (Moved.Refused s) h = cc
+moved-one (Moved.Refused r) Moved.Done h = cc
+moved-one (Moved.Refused r) (Moved.Refused s) h = cc
 
 pub judged-one : (a b : Judged) → judgeSays a ≡ judgeSays b → a ≡ b
-judged-one (Judged.Same j) (Judged.Same k) h = let e : j ≡ k = cc in ap Judged.Same e
-judged-one (Judged.Same j) (Judged.Refused s) h =
-    absurd (let z : _≡_ {A = ℕ} 0 1 = cc in omega arith)
-judged-one (Judged.Refused r) (Judged.Same k) h =
-    absurd (let z : _≡_ {A = ℕ} 0 1 = cc in omega arith)
-judged-one (Judged.Refused r) (Judged.Refused s) h = let e : r ≡ s = cc in ap Judged.Refused e
+judged-one (Judged.Same j) (Judged.Same k) h = cc
+judged-one (Judged.Same j) (Judged.Refused s) h = cc
+judged-one (Judged.Refused r) (Judged.Same k) h = cc
+judged-one (Judged.Refused r) (Judged.Refused s) h = cc
 
 pub verdict-one : (a b : Verdict) → verdictSays a ≡ verdictSays b → a ≡ b
-verdict-one (Verdict.Distance j) (Verdict.Distance k) h = let e : j ≡ k = cc in
-    ap Verdict.Distance e
-verdict-one (Verdict.Distance j) (Verdict.Refused s) h =
-    absurd (let z : _≡_ {A = ℕ} 0 1 = cc in omega arith)
-verdict-one (Verdict.Refused r) (Verdict.Distance k) h =
-    absurd (let z : _≡_ {A = ℕ} 0 1 = cc in omega arith)
-verdict-one (Verdict.Refused r) (Verdict.Refused s) h = let e : r ≡ s = cc in ap Verdict.Refused e
+verdict-one (Verdict.Distance j) (Verdict.Distance k) h = cc
+verdict-one (Verdict.Distance j) (Verdict.Refused s) h = cc
+verdict-one (Verdict.Refused r) (Verdict.Distance k) h = cc
+verdict-one (Verdict.Refused r) (Verdict.Refused s) h = cc

@@ -6,14 +6,14 @@ use native.Mathlib.Nat.{zero-add}
 use native.Mathlib.Omega.{arith}
 use lib.ListN.{length, take, drop, length-append, length-drop, drop-of-length-le}
 use lib.Seq.{take-at, drop-at, drop-drop, length-take-le, take-all}
-use borrow.Author.Tests.{eq-eqb, ne-eqb}
 use Rattle.calls.specs.Calls.{atStart}
 use Rattle.calls.specs.Between.{Wrote}
 use Rattle.lines.specs.Between.{WroteAt}
 use Rattle.lines.specs.Lines.{decimal, noneWord, fullWord, ptWord, bin, blank, feed, sameWord}
 use Rattle.lines.specs.Lines.{changedWord, savedWord, endWord, refusedWord, atWord, className}
 use Rattle.lines.specs.Lines.{verdictLine, savedLine, endLine, refusedLine, placed}
-use Rattle.lines.proofs.Widths.{class-none, class-full, class-part}
+use Rattle.lines.proofs.Widths.{class-none, class-full, class-part, same-pieces}
+use Rattle.lines.proofs.Widths.{changed-pieces}
 
 -- a part from at on, that came back with ds at its start
 pub part-back : (o : List ℕ) (at : ℕ) (ds : List ℕ) → at ≤ length o
@@ -67,21 +67,18 @@ back o at ds h w = record {
 }
 
 -- ---- one piece after another
--- what is before another piece has room too
-shorter : (ds es : List ℕ) {n : ℕ} → length (ds ++ es) ≤ n → length ds ≤ n
-shorter ds es h = omega (arith, h, length-append ds es)
-
-pub starts : (o ds : List ℕ) {a : ℕ} {out : List ℕ} → WroteAt ds 0 o a out → Wrote length ds o a out
-starts o ds t = record {
+pub starts : {o ds : List ℕ} {a : ℕ} {out : List ℕ} → WroteAt ds 0 o a out
+    → Wrote length ds o a out
+starts {o} {ds} t = record {
   count = t .place ∙ zero-add (length ds);
   memory = t .memory ∙ placed-start o ds;
 }
 
 -- two pieces from a place on
-both : (o : List ℕ) (at : ℕ) (ds es : List ℕ) {a b : ℕ} {p q : List ℕ}
+both : {o : List ℕ} {at : ℕ} {ds es : List ℕ} {a b : ℕ} {p q : List ℕ}
     → at + length (ds ++ es) ≤ length o → WroteAt ds at o a p → WroteAt es a p b q
     → WroteAt (ds ++ es) at o b q
-both o at ds es room f t =
+both {o} {at} {ds} {es} room f t =
     let n : length (ds ++ es) ≡ length ds + length es = length-append ds es in
     record {
       place = t .place ∙ omega (arith, f .place, n);
@@ -90,14 +87,25 @@ both o at ds es room f t =
           ∙ placed-placed o at ds es (omega (arith, room, n));
     }
 
-pub follows : (o ds es : List ℕ) (a b : ℕ) {p q : List ℕ} → length (ds ++ es) ≤ length o
+pub follows : {o ds es : List ℕ} {a b : ℕ} {p q : List ℕ} → length (ds ++ es) ≤ length o
     → Wrote length ds o a p → WroteAt es a p b q → Wrote length (ds ++ es) o b q
-follows o ds es a b room f t =
+follows {o} {ds} {es} {a} room f t =
     let first : WroteAt ds 0 o a _ = record {
       place = f .count ∙ sym (zero-add (length ds));
       memory = f .memory ∙ sym (placed-start o ds);
     } in
-    starts o (ds ++ es) (both o 0 ds es (omega (arith, room)) first t)
+    starts (both (omega (arith, room)) first t)
+
+-- what was written, if there was room for it
+abbrev Put : List ℕ → List ℕ → ℕ → List ℕ → Type 0
+Put ds o a p = length ds ≤ length o → Wrote length ds o a p
+
+-- what is before another piece has room too
+infixl 20 _then_
+_then_ : {o ds es : List ℕ} {a b : ℕ} {p q : List ℕ} → Put ds o a p → WroteAt es a p b q
+    → Put (ds ++ es) o b q
+_then_ {ds = ds} {es = es} f t room =
+    follows room (f (omega (arith, length-append ds es))) t
 
 -- ---- the class
 module _ (x k : ℕ) (o : List ℕ) (at : ℕ) {a : ℕ} {p : List ℕ} where
@@ -113,10 +121,10 @@ module _ (x k : ℕ) (o : List ℕ) (at : ℕ) {a : ℕ} {p : List ℕ} where
   part-made n e i is room f t =
       let whole : className x k ≡ ptWord ++ decimal i =
       class-part x k n e ∙ ap (λ (j : ℕ). ptWord ++ decimal j) (sym is) in
-      rw whole (both o at ptWord (decimal i) (rw whole at room) f t)
+      rw whole (both (rw whole at room) f t)
 
 -- ---- the lines
-module _ (o : List ℕ) {a b c : ℕ} {p q r : List ℕ} where
+module _ {o : List ℕ} {a b c : ℕ} {p q r : List ℕ} where
   pub saved-made : (m n same k : ℕ) {e f g : ℕ} {s t u : List ℕ}
       → length (savedLine m n same k) ≤ length o
       → Wrote length (decimal m) o a p → WroteAt savedWord a p b q → WroteAt (decimal n) b q c r
@@ -124,79 +132,32 @@ module _ (o : List ℕ) {a b c : ℕ} {p q r : List ℕ} where
       → Wrote length (savedLine m n same k) o g u
   unfolding savedLine
   saved-made m n same k room h1 h2 h3 h4 h5 h6 =
-      let ds1 = decimal m in
-      let ds2 = ds1 ++ savedWord in
-      let ds3 = ds2 ++ decimal n in
-      let ds4 = ds3 ++ blank in
-      let ds5 = ds4 ++ className same k in
-      let r5 : length ds5 ≤ length o = shorter ds5 feed room in
-      let r4 : length ds4 ≤ length o = shorter ds4 (className same k) r5 in
-      let r3 : length ds3 ≤ length o = shorter ds3 blank r4 in
-      let r2 : length ds2 ≤ length o = shorter ds2 (decimal n) r3 in
-      follows o ds5 feed _ _ room
-      (follows o ds4 (className same k) _ _ r5
-      (follows o ds3 blank c _ r4
-      (follows o ds2 (decimal n) b c r3 (follows o ds1 savedWord a b r2 h1 h2) h3) h4) h5) h6
+      ((λ _. h1) then h2 then h3 then h4 then h5 then h6) room
 
   pub refused-made : (x y : ℕ) {e f : ℕ} {s t : List ℕ} → length (refusedLine x y) ≤ length o
       → WroteAt refusedWord 0 o a p → WroteAt (decimal x) a p b q → WroteAt atWord b q c r
       → WroteAt (decimal y) c r e s → WroteAt feed e s f t → Wrote length (refusedLine x y) o f t
   unfolding refusedLine
   refused-made x y room h1 h2 h3 h4 h5 =
-      let ds2 = refusedWord ++ decimal x in
-      let ds3 = ds2 ++ atWord in
-      let ds4 = ds3 ++ decimal y in
-      let r4 : length ds4 ≤ length o = shorter ds4 feed room in
-      let r3 : length ds3 ≤ length o = shorter ds3 (decimal y) r4 in
-      let r2 : length ds2 ≤ length o = shorter ds2 atWord r3 in
-      follows o ds4 feed _ _ room
-      (follows o ds3 (decimal y) c _ r4
-      (follows o ds2 atWord b c r3
-      (follows o refusedWord (decimal x) a b r2 (starts o refusedWord h1) h2) h3) h4) h5
+      ((λ _. starts h1) then h2 then h3 then h4 then h5) room
 
   pub end-made : (m : ℕ) → length (endLine m) ≤ length o → WroteAt endWord 0 o a p
       → WroteAt (decimal m) a p b q → WroteAt feed b q c r → Wrote length (endLine m) o c r
   unfolding endLine
-  end-made m room h1 h2 h3 =
-      let ds2 = endWord ++ decimal m in
-      let r2 : length ds2 ≤ length o = shorter ds2 feed room in
-      follows o ds2 feed b c room (follows o endWord (decimal m) a b r2 (starts o endWord h1) h2) h3
+  end-made m room h1 h2 h3 = ((λ _. starts h1) then h2 then h3) room
 
   pub same-made : (m x d : ℕ) {e : ℕ} {s : List ℕ} → d ≡ 0 → length (verdictLine m x d) ≤ length o
       → Wrote length (decimal m) o a p → WroteAt blank a p b q → WroteAt (decimal x) b q c r
       → WroteAt sameWord c r e s → Wrote length (verdictLine m x d) o e s
-  unfolding verdictLine
   same-made m x d z room h1 h2 h3 h4 =
-      let ds2 = decimal m ++ blank in
-      let ds3 = ds2 ++ decimal x in
-      let r4 : length (ds3 ++ sameWord) ≤ length o = rw (eq-eqb d 0 z) at room in
-      let r3 : length ds3 ≤ length o = shorter ds3 sameWord r4 in
-      let r2 : length ds2 ≤ length o = shorter ds2 (decimal x) r3 in
-      rw (eq-eqb d 0 z) (follows o ds3 sameWord c _ r4
-      (follows o ds2 (decimal x) b c r3 (follows o (decimal m) blank a b r2 h1 h2) h3) h4)
+      let e = same-pieces m x d z in
+      rw e (((λ _. h1) then h2 then h3 then h4) (rw e at room))
 
   pub changed-made : (m x d : ℕ) {e f g : ℕ} {s t u : List ℕ} → (d ≡ 0 → ⊥)
       → length (verdictLine m x d) ≤ length o
       → Wrote length (decimal m) o a p → WroteAt blank a p b q → WroteAt (decimal x) b q c r
       → WroteAt changedWord c r e s → WroteAt (decimal d) e s f t → WroteAt feed f t g u
       → Wrote length (verdictLine m x d) o g u
-  unfolding verdictLine
   changed-made m x d n room h1 h2 h3 h4 h5 h6 =
-      let ds2 = decimal m ++ blank in
-      let ds3 = ds2 ++ decimal x in
-      let ds4 = ds3 ++ changedWord in
-      let ds5 = ds4 ++ decimal d in
-      let e6 : ds5 ++ feed ≡ ds3 ++ (changedWord ++ decimal d ++ feed) = simp append-assoc in
-      let r0 : length (ds3 ++ (changedWord ++ decimal d ++ feed)) ≤ length o =
-      rw (ne-eqb d 0 n) at room in
-      let r6 : length (ds5 ++ feed) ≤ length o = rw e6 r0 in
-      let r5 : length ds5 ≤ length o = shorter ds5 feed r6 in
-      let r4 : length ds4 ≤ length o = shorter ds4 (decimal d) r5 in
-      let r3 : length ds3 ≤ length o = shorter ds3 changedWord r4 in
-      let r2 : length ds2 ≤ length o = shorter ds2 (decimal x) r3 in
-      rw (ne-eqb d 0 n, ← e6)
-      (follows o ds5 feed _ _ r6
-      (follows o ds4 (decimal d) _ _ r5
-      (follows o ds3 changedWord c _ r4
-      (follows o ds2 (decimal x) b c r3 (follows o (decimal m) blank a b r2 h1 h2) h3) h4) h5)
-      h6)
+      let e = changed-pieces m x d n in
+      rw e (((λ _. h1) then h2 then h3 then h4 then h5 then h6) (rw e at room))

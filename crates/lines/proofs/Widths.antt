@@ -2,13 +2,15 @@
 -- have few bytes. Assumes nothing.
 use mathlib.Core.Path.{_≡_, refl, ap, sym, _∙_}
 use mathlib.Core.Bool.{Bool, true, false}
-use mathlib.Core.List.{[], _∷_, _++_}
+use mathlib.Core.List.{[], _∷_, _++_, append-assoc}
 use mathlib.Core.Logic.{_⊎_, inl, inr, ⊎-elim}
 use Prim.Native.Nat.{ℕ, zero, suc, _+_, _*_, _-_, _/_, _%_, _^_, _≤_, _<_}
 use native.Mathlib.Nat.{one-le-pow, mul-le-mul}
 use native.Mathlib.Numerals.{add-one}
 use native.Mathlib.Omega.{arith, pow-step}
 use lib.ListN.{length, length-append}
+use mir.Syntax.{w64}
+use mir.Val.{Fits}
 use lib.Dec.{eqb, ltb, leb}
 use borrow.Author.Tests.{lt-ltb, le-ltb, ltb-true, ltb-false, le-leb, lt-leb, eq-eqb, ne-eqb}
 use borrow.Author.Tests.{eqb-true, eqb-false}
@@ -17,8 +19,8 @@ use Rattle.taxa.specs.Sets.{pick}
 use Rattle.taxa.proofs.Bools.{either}
 use Rattle.io.specs.Digits.{digits, glyph, Fewest}
 use Rattle.lines.specs.Lines.{widthTo, decimal, noneWord, fullWord, ptWord, binFrom, bin}
-use Rattle.lines.specs.Lines.{className, sameWord, changedWord, savedWord, endWord}
-use Rattle.lines.specs.Lines.{refusedWord, atWord, verdictLine, savedLine, endLine}
+use Rattle.lines.specs.Lines.{className, blank, feed, sameWord, changedWord, savedWord}
+use Rattle.lines.specs.Lines.{endWord, refusedWord, atWord, verdictLine, savedLine, endLine}
 use Rattle.lines.specs.Lines.{refusedLine}
 
 pub digits-length : (k n : ℕ) → length (digits 10 k n) ≡ k
@@ -75,12 +77,12 @@ pub decimal-length : (n : ℕ) → length (decimal n) ≡ widthTo n n
 unfolding decimal
 decimal-length n = digits-length (widthTo n n) n
 
-pub decimal-one : (n : ℕ) → n < 10 → 1 ≡ length (decimal n)
-decimal-one n l = sym (decimal-length n ∙ width-one n n l)
+pub decimal-one : {n : ℕ} → n < 10 → 1 ≡ length (decimal n)
+decimal-one {n} l = sym (decimal-length n ∙ width-one n n l)
 
-pub decimal-more : (n : ℕ) → 10 ≤ n → length (decimal (n / 10)) + 1 ≡ length (decimal n)
-decimal-more zero g = absurd (omega arith)
-decimal-more (suc f) g =
+pub decimal-more : {n : ℕ} → 10 ≤ n → length (decimal (n / 10)) + 1 ≡ length (decimal n)
+decimal-more {n = zero} g = absurd (omega arith)
+decimal-more {n = suc f} g =
     let e : widthTo f (suc f / 10) ≡ widthTo (suc f / 10) (suc f / 10) =
     width-fuel f (suc f / 10) (suc f / 10) (omega arith) (omega arith) in
     let d = decimal-length (suc f / 10) in
@@ -111,6 +113,10 @@ decimal-below n k l = omega (arith, decimal-length n, width-few n n k l)
 pub decimal-few : (n : ℕ) → n < 2 ^ 64 → length (decimal n) ≤ 20
 decimal-few n l = decimal-below n 19 (omega (arith, l))
 
+-- the same of a number in the code, as a rule for `omega`
+pub number-few : {n : ℕ} → Fits w64 n → length (decimal n) ≤ 20
+number-few f = decimal-few _ (f .fits)
+
 -- ---- the class
 bin-few : (f i s k : ℕ) → binFrom f i s k ≤ i + f
 unfolding binFrom
@@ -122,29 +128,33 @@ bin-few (suc f) i s k = go (leb (10 * s) (i * k)) (bin-few f (suc i) s k)
     go true h = omega arith
     go false h = omega (arith, h)
 
-pub bin-fits : (i k : ℕ) → i < 10 → k ≤ mostPartitions → i * k ≤ 10 * mostPartitions
-bin-fits i k l h = omega (
+pub bin-fits : {i k : ℕ} → i < 10 → k ≤ mostPartitions → i * k ≤ 10 * mostPartitions
+bin-fits {i} {k} l h = omega (
   arith,
   mul-le-mul {n₁ = i} {m₁ = k} {n₂ = 10} {m₂ = mostPartitions} (omega arith) h,
 )
 
-module _ (s k : ℕ) where
-  pub bin-here : (i : ℕ) → i < 10 → 10 * s ≤ i * k → i ≡ binFrom (10 - i) i s k
+-- the search for it, a turn of the loop at a time; c is what it comes to
+module _ (s k i : ℕ) {c : ℕ} where
+  pub bin-here : i < 10 → 10 * s ≤ i * k → binFrom (10 - i) i s k ≡ c → i ≡ c
   unfolding binFrom
-  bin-here i l h = let e : 10 - i ≡ suc (9 - i) = omega arith in rw (e, le-leb (10 * s) (i * k) h)
+  bin-here l h =
+      let e : 10 - i ≡ suc (9 - i) = omega arith in
+      rw (e, le-leb (10 * s) (i * k) h) (λ q. q)
 
-  pub bin-next : (i : ℕ) → i < 10 → i * k < 10 * s
-      → binFrom (10 - i) i s k ≡ binFrom (10 - (i + 1)) (i + 1) s k
+  pub bin-next : i < 10 → i * k < 10 * s → binFrom (10 - i) i s k ≡ c
+      → binFrom (10 - (i + 1)) (i + 1) s k ≡ c
   unfolding binFrom
-  bin-next i l h =
+  bin-next l h =
       let e : 10 - i ≡ suc (9 - i) = omega arith in
       let e2 : 10 - (i + 1) ≡ 9 - i = omega arith in
-      rw (e, e2, lt-leb (10 * s) (i * k) h, add-one)
+      rw (e, e2, lt-leb (10 * s) (i * k) h, add-one) (λ q. q)
 
-  pub bin-last : (i : ℕ) → 10 ≤ i → i ≡ binFrom (10 - i) i s k
+  pub bin-last : 10 ≤ i → binFrom (10 - i) i s k ≡ c → i ≡ c
   unfolding binFrom
-  bin-last i h = let e : 10 - i ≡ 0 = omega arith in rw e
+  bin-last h = let e : 10 - i ≡ 0 = omega arith in rw e (λ q. q)
 
+module _ (s k : ℕ) where
   pub class-none : s ≡ 0 → className s k ≡ noneWord
   unfolding className
   class-none h = rw (eq-eqb s 0 h)
@@ -186,16 +196,25 @@ module _ (s k : ℕ) where
 
 -- ---- the lines
 module _ (m p d : ℕ) where
+  pub same-pieces : d ≡ 0 → verdictLine m p d ≡ decimal m ++ blank ++ decimal p ++ sameWord
+  unfolding verdictLine
+  same-pieces h = rw (eq-eqb d 0 h)
+
+  pub changed-pieces : (d ≡ 0 → ⊥)
+      → verdictLine m p d ≡ decimal m ++ blank ++ decimal p ++ changedWord ++ decimal d ++ feed
+  unfolding verdictLine
+  changed-pieces h = rw (ne-eqb d 0 h) (simp append-assoc)
+
   pub same-bytes : d ≡ 0 → length (verdictLine m p d) ≡ length (decimal m) + 1 + length (decimal p)
       + 8
-  unfolding verdictLine sameWord
-  same-bytes h = rw (eq-eqb d 0 h) (simp length-append (omega arith))
+  unfolding sameWord
+  same-bytes h = rw (same-pieces h) (simp length-append (omega arith))
 
   pub changed-bytes : (d ≡ 0 → ⊥)
       → length (verdictLine m p d) ≡ length (decimal m) + 1 + length (decimal p) + 9 + length
       (decimal d) + 1
-  unfolding verdictLine changedWord
-  changed-bytes h = rw (ne-eqb d 0 h) (simp length-append (omega arith))
+  unfolding changedWord
+  changed-bytes h = rw (changed-pieces h) (simp length-append (omega arith))
 
   pub verdict-least : length (decimal m) + 1 + length (decimal p) ≤ length (verdictLine m p d)
   verdict-least = ⊎-elim (λ z. omega (arith, same-bytes (eqb-true d 0 z)))

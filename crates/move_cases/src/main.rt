@@ -8,6 +8,7 @@ use case_lines::size;
 use case_lines::word;
 use case_lists::LONG;
 use case_lists::bytes;
+use case_lists::first_mut;
 
 // Runs a case on its table, of which there is a copy.
 fn call(l: &[u8], copy: &[u8], t: &mut [u8]) {
@@ -20,19 +21,12 @@ fn call(l: &[u8], copy: &[u8], t: &mut [u8]) {
     }
 }
 
-// The same on the table in so many first bytes.
-fn on_table(l: &[u8], copy: &[u8], t: &mut [u8], long: usize) {
-    if long <= t.len() {
-        call(l, first(copy, long), &mut t[..long]);
-    }
-}
-
 // Runs the case in a line.
 fn case(input: &[u8], l: &[u8]) {
     let mut t = [0u8; LONG];
     let long = bytes(input, word(l, 2), &mut t);
     let copy = t;
-    on_table(l, &copy, &mut t, long);
+    call(l, first(&copy, long), first_mut(&mut t, long));
 }
 
 // Runs the cases in their order.
@@ -51,6 +45,5 @@ fn run(input: &[u8]) {
 // Reads the cases and runs them.
 fn main() {
     let mut input = io::large_buffer();
-    let got = case_lines::read(&mut input);
-    run(first(&input, got));
+    run(case_lines::read(&mut input));
 }

@@ -7,6 +7,7 @@ use case_lists::MARK;
 use case_lists::ROOM;
 use case_lists::all_marks;
 use case_lists::firsts;
+use case_lists::firsts_mut;
 use case_lists::numbers;
 use case_moves::four;
 use case_prints::kept;
@@ -49,10 +50,8 @@ pub fn each(l: &[u8], n: usize, t: &[u8]) {
     let mut ys = [0u64; ROOM];
     let many = numbers(word(l, 3), &mut ys);
     let mut out = [MARK; ROOM];
-    let room = size(l, 5);
-    if room <= ROOM {
-        list(l, n, t, firsts(&ys, many), &mut out[..room]);
-    }
+    let lent = firsts_mut(&mut out, size(l, 5));
+    list(l, n, t, firsts(&ys, many), lent);
 }
 
 // A case `apply TAXA TABLE MOVE TITLE`: the rows after the move, or the refusal

@@ -2,21 +2,22 @@
 -- Assumes nothing.
 use mathlib.Core.Path.{_≡_, refl, sym, ap, ap₂, _∙_, subst}
 use mathlib.Core.Logic.{_⊎_, inl, inr}
-use mathlib.Core.Bool.{true, false, true≢false}
+use mathlib.Core.Bool.{Bool, true, false, true≢false}
 use mathlib.Core.List.{List, [], _∷_, _++_}
 use Prim.Native.Nat.{ℕ, suc, _+_, _-_, _^_, _≤_, _<_}
 use native.Mathlib.Omega.{arith}
 use lib.ListN.{length, set, length-set}
 use borrow.Author.Tests.{eq-eqb, ne-eqb, lt-ltb, le-ltb}
 use Rattle.calls.proofs.StartLaws.{wrote-more}
-use Rattle.taxa.specs.Sets.{has, size}
+use Rattle.taxa.specs.Sets.{has, pick, size}
 use Rattle.taxa.proofs.Sizes.{size-le, size-pos}
 use Rattle.tree.specs.Tree.{lo, rows, nodes, touches, far, part}
 use Rattle.tree.proofs.Rounds.{part-start}
 use Rattle.tree.proofs.RowCounts.{Pair}
 use Rattle.tree.proofs.Ends.{end-node}
-use Rattle.sides.specs.Between.{At}
-use Rattle.sides.proofs.FillLaws.{at-end}
+use Rattle.node_rows.specs.Between.{OtherTwo}
+use Rattle.sides.specs.Between.{At, Looked}
+use Rattle.sides.proofs.FillLaws.{at-end, two}
 use Rattle.moves.specs.Groups.{beyond, leads, onward, aside, walk, stayed}
 use Rattle.moves.proofs.Ways.GroupLists.{snoc}
 use Rattle.moves.proofs.Ways.Leads.{Turn, turn, not-taxon, leads-beyond}
@@ -35,9 +36,9 @@ listed-none m o = record {
   len = refl;
 }
 
-listed-more : (m : ℕ) (gs o : List ℕ) (c : ℕ) (out : List ℕ) (x : ℕ) → c < m → c < length o
+listed-more : {m : ℕ} {gs o out : List ℕ} {c : ℕ} (x : ℕ) → c < m → c < length o
     → Listed m gs o c out → Listed m (gs ++ (x ∷ [])) o (c + 1) (set out c x)
-listed-more m gs o c out x lm lo L = record {
+listed-more {out = out} {c = c} x lm lo L = record {
   wrote = wrote-more (L .wrote) x lo;
   few = omega arith;
   len = length-set out c x ∙ L .len;
@@ -49,36 +50,35 @@ pub record Walked (n : ℕ) (t : List ℕ) (b v a : ℕ) (o out : List ℕ) (w e
   pub b-lt : b < rows n
   pub be : b ≡ e → ⊥
   pub ahead : has (part n t e w) (lo t b) ≡ true
+  pub for-groups : length o ≡ room
   pub fuel : c + size (nodes n) (part n t e w) ≤ nodes n
   pub gs : List ℕ
   pub listed : Listed room gs o c out
   pub rest : gs ++ walk n t b (nodes n - c) w e ≡ walk n t b (nodes n) v a
 
--- ---- the two other rows at an end
-module _ {n : ℕ} {t : List ℕ} {e v f g : ℕ} (a : At n t e v) (K : Pair n t e v f g) where
-  pub pair-f : At n t f v
-  pair-f = record { good = a .good; row = K .f-lt; touch = K .f-p }
+-- ---- an end of a row is a node
+pub at-node : {n : ℕ} {t : List ℕ} {e v : ℕ} → At n t e v → v < nodes n
+at-node a = end-node (at-end a)
 
-  pub pair-g : At n t g v
-  pair-g = record { good = a .good; row = K .g-lt; touch = K .g-p }
+-- ---- the two other rows at an inner end, as the code takes them
+module _ {n : ℕ} {t near s : List ℕ} {e v f g : ℕ} (a : At n t e v) (L : Looked n t near s)
+    (inner : n ≤ v) (o : OtherTwo e near v f g) where
+  pub pair : Pair n t e v f g
+  pair = two (at-end a) (L .rows) inner o
 
--- ---- one step, f and g being those rows
-module _ {n : ℕ} {t : List ℕ} {e v f g : ℕ} (K : Pair n t e v f g) {b : ℕ} where
-  pub paced-first : leads n t b v f ≡ true → {off : ℕ} → off ≡ beyond n t v g
-      → Paced n t b v e f off
-  paced-first h k =
-      record {
-        leads-on = sym (on-is n t b e v f g (K .list) true h);
-        hangs-off = k ∙ ap (beyond n t v) (sym (off-is n t b e v f g (K .list) true h));
-      }
+  pub first-at : At n t f v
+  first-at = record { good = a .good; row = pair .f-lt; touch = pair .f-p }
 
-  pub paced-second : leads n t b v f ≡ false → {off : ℕ} → off ≡ beyond n t v f
-      → Paced n t b v e g off
-  paced-second h k =
-      record {
-        leads-on = sym (on-is n t b e v f g (K .list) false h);
-        hangs-off = k ∙ ap (beyond n t v) (sym (off-is n t b e v f g (K .list) false h));
-      }
+  pub second-at : At n t g v
+  second-at = record { good = a .good; row = pair .g-lt; touch = pair .g-p }
+
+  -- one step
+  pub paced : {b : ℕ} (l : Bool) → leads n t b v f ≡ l → {off : ℕ} → off ≡ beyond n t v (pick l g f)
+      → Paced n t b v e (pick l f g) off
+  paced {b} l h d = record {
+    leads-on = sym (on-is n t b e v f g (pair .list) l h);
+    hangs-off = d ∙ ap (beyond n t v) (sym (off-is n t b e v f g (pair .list) l h));
+  }
 
 -- ---- an end of row a, and what its groups ask for
 module _ {n : ℕ} {t near s : List ℕ} {a : ℕ} {end : Side} {o : List ℕ}
@@ -86,57 +86,80 @@ module _ {n : ℕ} {t near s : List ℕ} {a : ℕ} {end : Side} {o : List ℕ}
   pub asked-at : At n t a (end .node)
   asked-at = record { good = K .looked .good; row = K .row; touch = K .right .touch }
 
-  module _ (goes : end .goes ≡ true) where
-    A : Aim n t a (end .node) (end .target)
-    A =
-        record {
-          valid = K .looked .good .valid;
-          a-lt = K .row;
-          b-lt = K .right .row;
-          a-v = K .right .touch;
-          fits = K .right .aim goes .0;
-        }
+  pub asked-node : end .node < nodes n
+  asked-node = at-node asked-at
 
-    -- An end that goes is no taxon: its target would be row a, which touches
-    -- it.
-    inner : Inner n t a (end .node) (end .target)
-    inner = go (kind A)
-      where
-        go : Taxon n a (end .node) (end .target) ⊎ Inner n t a (end .node) (end .target)
-            → Inner n t a (end .node) (end .target)
-        go (inl w) =
-            absurd (true≢false (sym (K .right .touch)
-            ∙ ap (λ (r : ℕ). touches t r (end .node)) (sym (w .same)) ∙ K .right .aim goes .1))
-        go (inr w) = w
+-- ---- an end that goes
+module _ {n : ℕ} {t near s : List ℕ} {a : ℕ} {end : Side} {o : List ℕ}
+    (k : (Asked n t near s a end o) × (end .goes ≡ true)) where
+  K : Asked n t near s a end o
+  K = k .0
 
-    pub walked-start : Walked n t (end .target) (end .node) a o o (end .node) a 0
-    walked-start =
-        record {
-          here = asked-at;
-          b-lt = K .right .row;
-          be = inner .ba;
-          ahead = inner .there;
-          fuel = omega (arith, size-le (nodes n) (part n t a (end .node)));
-          gs = [];
-          listed = listed-none room o;
-          rest = let z : nodes n - 0 ≡ nodes n = omega arith in
-              ap (λ (k : ℕ). walk n t (end .target) k (end .node) a) z;
-        }
+  A : Aim n t a (end .node) (end .target)
+  A =
+      record {
+        valid = K .looked .good .valid;
+        a-lt = K .row;
+        b-lt = K .right .row;
+        a-v = K .right .touch;
+        fits = K .right .aim (k .1) .0;
+      }
 
-    pub way-all : {out : List ℕ} {k : ℕ}
-        → Listed room (walk n t (end .target) (nodes n) (end .node) a) o k out
-        → Listed room (sideGroups n t a end) o k out
-    unfolding sideGroups
-    way-all {out} {k} L = rw goes
-        (subst (λ (gs : List ℕ). Listed room gs o k out) (sym (inner-groups A (inner .inner))) L)
+  -- An end that goes is no taxon: its target would be row a, which touches
+  -- it.
+  inner : Inner n t a (end .node) (end .target)
+  inner = go (kind A)
+    where
+      go : Taxon n a (end .node) (end .target) ⊎ Inner n t a (end .node) (end .target)
+          → Inner n t a (end .node) (end .target)
+      go (inl w) =
+          absurd (true≢false (sym (K .right .touch)
+          ∙ ap (λ (r : ℕ). touches t r (end .node)) (sym (w .same)) ∙ K .right .aim (k .1) .1))
+      go (inr w) = w
 
-  module _ (stays : end .goes ≡ false) where
-    pub stays-all : {out : List ℕ} {k : ℕ} → Listed 2 (stayed n t a (end .node)) o k out
-        → Listed room (sideGroups n t a end) o k out
-    unfolding sideGroups
-    stays-all {out} {k} L = rw stays
-        (record { wrote = L .wrote; few = omega (arith, L .few); len = L .len })
+  pub walked-start : Walked n t (end .target) (end .node) a o o (end .node) a 0
+  walked-start =
+      record {
+        here = asked-at K;
+        b-lt = K .right .row;
+        be = inner .ba;
+        ahead = inner .there;
+        for-groups = K .for-groups;
+        fuel = omega (arith, size-le (nodes n) (part n t a (end .node)));
+        gs = [];
+        listed = listed-none room o;
+        rest = let z : nodes n - 0 ≡ nodes n = omega arith in
+            ap (λ (k : ℕ). walk n t (end .target) k (end .node) a) z;
+      }
 
+  pub way-all : {out : List ℕ} {m : ℕ}
+      → Listed room (walk n t (end .target) (nodes n) (end .node) a) o m out
+      → Listed room (sideGroups n t a end) o m out
+  unfolding sideGroups
+  way-all {out} {m} L = rw (k .1)
+      (subst (λ (gs : List ℕ). Listed room gs o m out) (sym (inner-groups A (inner .inner))) L)
+
+-- ---- an end that stays: it is a taxon, or has two rows
+module _ {n : ℕ} {t near s : List ℕ} {a : ℕ} {end : Side} {o : List ℕ}
+    (k : (Asked n t near s a end o) × (end .goes ≡ false)) where
+  one : (x : ℕ) → Listed room (x ∷ []) o 1 (set o 0 x)
+  one x = listed-more x (omega arith) (omega (arith, k .0 .for-groups)) (listed-none room o)
+
+  pub stays-one : {x : ℕ} → end .node < n → x ≡ 2 ^ (end .node)
+      → Listed room (sideGroups n t a end) o 1 (set o 0 x)
+  unfolding sideGroups stayed
+  stays-one {x} tax h = rw (k .1, lt-ltb (end .node) n tax, sym h) (one x)
+
+  pub stays-two : {f g x y : ℕ} → n ≤ end .node → OtherTwo a near (end .node) f g
+      → x ≡ beyond n t (end .node) f → y ≡ beyond n t (end .node) g
+      → Listed room (sideGroups n t a end) o 2 (set (set o 0 x) 1 y)
+  unfolding sideGroups stayed
+  stays-two {x = x} {y = y} inner w hx hy =
+      let P = pair (asked-at (k .0)) (k .0 .looked) inner w in
+      rw (k .1, le-ltb (end .node) n inner, P .list, sym hx, sym hy)
+      (listed-more y (omega arith) (omega (arith, k .0 .for-groups)) (one x))
+
+-- ---- one turn of the walk
 module _ {n : ℕ} {t : List ℕ} {b v a : ℕ} {o out : List ℕ} {w e c : ℕ}
     (W : Walked n t b v a o out w e c) where
   pub walked-inner : n ≤ w
@@ -163,17 +186,16 @@ module _ {n : ℕ} {t : List ℕ} {b v a : ℕ} {o out : List ℕ} {w e c : ℕ}
     T = rw h (turn (at-end (W .here)) walked-inner (W .b-lt) (W .be) (W .ahead))
 
     pub on-at : At n t on w
-    on-at = record {
-      good = W .here .good;
-      row = T .on-branch .at .row;
-      touch =
-          T .on-branch .at .touch;
-    }
+    on-at =
+        let B = T .on-branch .at in
+        record { good = W .here .good; row = B .row; touch = B .touch }
+
+    pub last-at : on ≡ b → At n t b w
+    last-at d = rw (← d) on-at
 
     -- one group more is written
-    more : length o ≡ room → Listed room (W .gs ++ (off ∷ [])) o (c + 1) (set out c off)
-    more l = listed-more room (W .gs) o c out off (omega (arith, walked-lt, W .here .good .few))
-        (omega (arith, walked-lt, W .here .good .few)) (W .listed)
+    more : Listed room (W .gs ++ (off ∷ [])) o (c + 1) (set out c off)
+    more = listed-more off (omega (arith, walked-lt)) (omega (arith, walked-lt)) (W .listed)
 
     -- with what is left of the way
     all : (r : List ℕ) → off ∷ r ≡ walk n t b (suc (nodes n - (c + 1))) w e
@@ -182,16 +204,17 @@ module _ {n : ℕ} {t : List ℕ} {b v a : ℕ} {o out : List ℕ} {w e c : ℕ}
         ∙ ap (λ (l : List ℕ). W .gs ++ l) (q ∙ ap (λ (j : ℕ). walk n t b j w e) (sym left))
         ∙ W .rest
 
-    pub walked-next : (w′ : ℕ) → length o ≡ room → (on ≡ b → ⊥) → w′ ≡ far t on w
+    pub walked-next : {w′ : ℕ} → (on ≡ b → ⊥) → w′ ≡ far t on w
         → Walked n t b v a o (set out c off) w′ on (c + 1)
-    walked-next w′ l d hw = record {
+    walked-next {w′} d hw = record {
       here = rw hw (far-at on-at);
       b-lt = W .b-lt;
       be = λ x. d (sym x);
+      for-groups = W .for-groups;
       ahead = rw hw (sym (leads-beyond (at-end on-at) (W .b-lt) (λ x. d (sym x))) ∙ T .on-leads);
       fuel = rw hw (omega (arith, W .fuel, T .on-branch .fall));
       gs = W .gs ++ (off ∷ []);
-      listed = more l;
+      listed = more;
       rest = all (walk n t b (nodes n - (c + 1)) w′ on)
           (ap₂ (λ (x : ℕ) (r : List ℕ). x ∷ r) k
           (ap₂ (walk n t b (nodes n - (c + 1))) (hw ∙ ap (λ (x : ℕ). far t x w) h) h)
@@ -199,28 +222,11 @@ module _ {n : ℕ} {t : List ℕ} {b v a : ℕ} {o out : List ℕ} {w e c : ℕ}
           (ne-eqb (onward n t b w e) b (λ x. d (h ∙ x)))));
     }
 
-    pub walked-last : (x : ℕ) → length o ≡ room → on ≡ b → x ≡ beyond n t w b
+    pub walked-last : {x : ℕ} → on ≡ b → x ≡ beyond n t w b
         → Listed room (walk n t b (nodes n) v a) o (c + 1 + 1) (set (set out c off) (c + 1) x)
-    walked-last x l d hx =
+    walked-last {x} d hx =
         subst (λ (gs : List ℕ). Listed room gs o (c + 1 + 1) (set (set out c off) (c + 1) x))
         (all (x ∷ []) (ap₂ (λ (y z : ℕ). y ∷ z ∷ []) k hx
         ∙ sym (walk-last n t b (nodes n - (c + 1)) w e
         (eq-eqb (onward n t b w e) b (sym h ∙ d)))))
-        (listed-more room (W .gs ++ (off ∷ [])) o (c + 1) (set out c off) x
-        (omega (arith, walked-lt, W .here .good .few))
-        (omega (arith, walked-lt, W .here .good .few)) (more l))
-
--- ---- the groups of an end that stays
-module _ (n : ℕ) (t : List ℕ) (a v : ℕ) (o : List ℕ) (l : length o ≡ room) where
-  pub stays-one : (x : ℕ) → v < n → x ≡ 2 ^ v → Listed 2 (stayed n t a v) o 1 (set o 0 x)
-  unfolding stayed
-  stays-one x tax h = rw (lt-ltb v n tax)
-      (rw (sym h) (listed-more 2 [] o 0 o x (omega arith) (omega arith) (listed-none 2 o)))
-
-  pub stays-two : (f g x y : ℕ) → n ≤ v → Pair n t a v f g → x ≡ beyond n t v f → y ≡ beyond n t v g
-      → Listed 2 (stayed n t a v) o 2 (set (set o 0 x) 1 y)
-  unfolding stayed
-  stays-two f g x y inner K hx hy =
-      rw (le-ltb v n inner, K .list) (rw (sym hx, sym hy) (
-      listed-more 2 (x ∷ []) o 1 (set o 0 x) y (omega arith) (omega arith)
-      (listed-more 2 [] o 0 o x (omega arith) (omega arith) (listed-none 2 o))))
+        (listed-more x (omega (arith, walked-lt)) (omega (arith, walked-lt)) more)

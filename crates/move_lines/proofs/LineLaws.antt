@@ -8,9 +8,13 @@ use native.Mathlib.Omega.{arith}
 use native.Mathlib.Numerals.{add-one}
 use lib.ListN.{length, getD, take, drop, length-append, take-append-drop, length-drop}
 use lib.Seq.{take-suc, length-take-le, take-length}
+use mir.Syntax.{w64}
+use mir.Val.{Fits}
+use Rattle.taxa.specs.Most.{mostPartitions}
 use Rattle.calls.specs.Between.{Wrote}
 use Rattle.calls.proofs.StartLaws.{wrote-length}
 use Rattle.lines.specs.Lines.{verdictLine, savedLine}
+use Rattle.lines.proofs.Widths.{verdict-few}
 use Rattle.lines.proofs.Placing.{follows, back}
 use Rattle.group_rule.specs.Zeros.{zeros}
 use Rattle.move_lines.specs.MoveLines.{verdictLines, linesWith}
@@ -62,13 +66,37 @@ verdicts-room m ds i l =
       length-append (verdictLines m 1 (take i ds)) (verdictLine m (i + 1) (getD ds i 0)),
     )
 
-pub verdicts-end : (m : ℕ) (ds : List ℕ) (i : ℕ) → i ≡ length ds
+verdicts-end : (m : ℕ) (ds : List ℕ) (i : ℕ) → i ≤ length ds → length ds ≤ i
     → verdictLines m 1 (take i ds) ≡ verdictLines m 1 ds
-verdicts-end m ds i e = ap (verdictLines m 1) (ap (λ (j : ℕ). take j ds) e ∙ take-length ds)
+verdicts-end m ds i l g =
+    let e : i ≡ length ds = omega arith in
+    ap (verdictLines m 1) (ap (λ (j : ℕ). take j ds) e ∙ take-length ds)
 
-pub verdicts-none : (m : ℕ) (ds : List ℕ) → verdictLines m 1 (take 0 ds) ≡ []
+-- ---- how many bytes w the lines of the first i partitions take: none, one line
+-- more, and all
+pub width-none : (m : ℕ) (ds : List ℕ) → 0 ≡ length (verdictLines m 1 (take 0 ds))
 unfolding verdictLines
-verdicts-none m ds = refl
+width-none m ds = refl
+
+module _ (m : ℕ) (ds : List ℕ) (i : ℕ) {w : ℕ}
+    (wide : w ≡ length (verdictLines m 1 (take i ds)))
+  where
+    pub width-more : {k : ℕ} → i < length ds → k ≡ length (verdictLine m (i + 1) (getD ds i 0))
+        → w + k ≡ length (verdictLines m 1 (take (i + 1) ds))
+    width-more l e = rw (verdicts-next m ds i l, length-append) (omega (arith, wide, e))
+
+    pub width-all : i ≤ length ds → length ds ≤ i → w ≡ length (verdictLines m 1 ds)
+    width-all l g = wide ∙ ap length (verdicts-end m ds i l g)
+
+-- a line is short, where its partition's distance is one of those in the code
+pub line-short : (m : ℕ) (ds : List ℕ) (i : ℕ) {k : ℕ} → Fits w64 m
+    → ((j : ℕ) → Fits w64 (getD ds j 0)) → i < length ds → length ds ≤ mostPartitions
+    → k ≡ length (verdictLine m (i + 1) (getD ds i 0)) → k ≤ 80
+line-short m ds i hm hd l most e = omega (
+  arith,
+  e,
+  verdict-few m (i + 1) (getD ds i 0) (hm .fits) (omega arith) (hd i .fits),
+)
 
 -- ---- lines after lines, at the start of a lent output
 module _
@@ -88,9 +116,8 @@ module _
 
     pub put-then : {part : List ℕ} {k : ℕ} → Wrote length ds (take (length o - e) (drop e o)) k part
         → Wrote length (xs ++ ds) o₀ (e + k) (take e o ++ (part ++ drop (length o - e) (drop e o)))
-    put-then {k = k} q =
-        follows o₀ xs ds e (e + k) (omega (arith, length-append xs ds, room)) w
-        (back o e ds put-room q)
+    put-then q =
+        follows (omega (arith, length-append xs ds, room)) w (back o e ds put-room q)
 
 -- ---- the line of the partition after the first i
 module _
@@ -104,9 +131,6 @@ module _
     fits : length (verdictLines m 1 (take i ds)) + length line ≤ length o₀
     fits = omega (arith, verdicts-room m ds i l, room)
 
-    pub line-room : e + length line ≤ length o
-    line-room = put-room line w fits
-
     pub line-part : length line ≤ length (take (length o - e) (drop e o))
     line-part = part-room line w fits
 
@@ -115,6 +139,20 @@ module _
         → Wrote length (verdictLines m 1 (take (i + 1) ds)) o₀ (e + k)
         (take e o ++ (part ++ drop (length o - e) (drop e o)))
     line-then q = rw (verdicts-next m ds i l) (put-then line w fits q)
+
+-- the lines of no partition and of all
+pub none-put : (m : ℕ) (ds o : List ℕ) → Wrote length (verdictLines m 1 (take 0 ds)) o 0 o
+unfolding verdictLines
+none-put m ds o = record { count = refl; memory = refl }
+
+module _ (m : ℕ) (ds : List ℕ) (i : ℕ) (l : i ≤ length ds) (g : length ds ≤ i) {o₀ : List ℕ}
+    {e : ℕ} {o : List ℕ} (w : Wrote length (verdictLines m 1 (take i ds)) o₀ e o)
+  where
+    pub all-put : Wrote length (verdictLines m 1 ds) o₀ e o
+    all-put = rw (← verdicts-end m ds i l g) w
+
+    pub all-length : length (verdictLines m 1 ds) ≤ length o₀ → length o ≡ length o₀
+    all-length room = wrote-length all-put room
 
 -- ---- the verdict lines and the saved line are all lines of a move
 module _ (m : ℕ) (ds : List ℕ) (s same : ℕ) (counted : same ≡ zeros ds) where
@@ -130,13 +168,13 @@ module _ (m : ℕ) (ds : List ℕ) (s same : ℕ) (counted : same ≡ zeros ds) 
 
   -- the saved line after the verdict lines, at the start of a lent output
   module _ (o₀ : List ℕ) (room : length (linesWith m ds s) ≤ length o₀) where
-    pub last-after : length (verdictLines m 1 ds) + length last ≤ length o₀
+    last-after : length (verdictLines m 1 ds) + length last ≤ length o₀
     last-after = omega (arith, lines-length, room)
 
-    module _ {e : ℕ} {o : List ℕ} (w : Wrote length (verdictLines m 1 ds) o₀ e o) where
-      pub last-room : e + length last ≤ length o
-      last-room = put-room last w last-after
+    pub before-last : length (verdictLines m 1 ds) ≤ length o₀
+    before-last = omega (arith, last-after)
 
+    module _ {e : ℕ} {o : List ℕ} (w : Wrote length (verdictLines m 1 ds) o₀ e o) where
       pub last-part : length last ≤ length (take (length o - e) (drop e o))
       last-part = part-room last w last-after
 

@@ -20,8 +20,11 @@ module _
         ap₂ take (sym (distances-length n t u ys)) (told .memory)
         ∙ start-take (distances n t u ys) out
 
-    pub found-length : length (take (length ys) out′) ≡ length ys
-    found-length = ap length found-are ∙ distances-length n t u ys
+    pub found-length : length ys ≡ length (take (length ys) out′)
+    found-length = sym (ap length found-are ∙ distances-length n t u ys)
+
+    pub found-few : {k : ℕ} → length ys ≤ k → length (take (length ys) out′) ≤ k
+    found-few h = omega (arith, found-length)
 
     pub found-within : length ys ≤ length out′
     found-within = omega (arith, distances-length n t u ys, wrote-within told)

@@ -1,5 +1,5 @@
 -- A plan asks each end that goes for what it has. Assumes nothing.
-use mathlib.Core.Path.{_≡_, refl, sym, ap, ap₂, _∙_, subst}
+use mathlib.Core.Path.{_≡_, refl, sym, ap₂, _∙_, subst}
 use mathlib.Core.Bool.{Bool, true, false}
 use mathlib.Core.List.{List, [], _∷_}
 use Prim.Native.Nat.{ℕ, _≤_, _<_}
@@ -13,8 +13,8 @@ use Rattle.tree.proofs.Joins.{touch-node}
 use Rattle.tree.proofs.RowCounts.{Pair, pair-of}
 use Rattle.node_rows.specs.Between.{Near, OtherTwo}
 use Rattle.node_rows.proofs.NearLaws.{near-others}
-use Rattle.moves.specs.Moves.{nni, moveEnd}
-use Rattle.moves.specs.Between.{SideRight, sideMoved, planMoved}
+use Rattle.moves.specs.Moves.{moveEnd}
+use Rattle.moves.specs.Between.{SideRight, sideMoved}
 use Rattle.moves.specs.declared.Side.{Side}
 use Rattle.moves.specs.declared.Plan.{Plan}
 use Rattle.moves.proofs.Spr.Rows.{EndFits}
@@ -27,31 +27,31 @@ use Rattle.moved_rows.proofs.Kept.{touch-kept, others-kept}
 -- ---- the rows that the code takes at an end that moves
 module _ {n : ℕ} {t near : List ℕ} {p a b : ℕ} (k : EndMoves n t near p a b) where
   pub p-lt : p < nodes most
-  p-lt = omega (arith, touch-node n t a (k .good .valid) (k .a-lt) p (k .a-p), k .good .few)
+  p-lt = omega (arith, touch-node a (k .good .valid) (k .a-lt) p (k .a-p), k .good .few)
 
   pub two-rows : {f g : ℕ} → OtherTwo a near p f g → Pair n t a p f g
   two-rows {f} {g} o =
-      pair-of n t a p f g (k .good .valid) (k .a-lt) (k .a-p) (k .inner)
-      (touch-node n t a (k .good .valid) (k .a-lt) p (k .a-p))
+      pair-of a p f g (k .good .valid) (k .a-lt) (k .a-p) (k .inner)
+      (touch-node a (k .good .valid) (k .a-lt) p (k .a-p))
       (k .two ∙ sym (ap₂ (λ (x y : ℕ). x ∷ y ∷ []) (o .first) (o .second)))
 
 -- ---- an end that fits, in the table whose rows the array holds
-fits-moves : (n : ℕ) (t near : List ℕ) (p a b : ℕ) → n ≤ most → EndFits n t p a b → Near n t near
+fits-moves : {n : ℕ} {t near : List ℕ} {p a b : ℕ} → n ≤ most → EndFits n t p a b → Near n t near
     → EndMoves n t near p a b
-fits-moves n t near p a b few k N = record {
+fits-moves few k N = record {
   good = valid-accepted few (k .valid);
   a-lt = k .a-lt;
   b-lt = k .b-lt;
   a-p = k .a-p;
   inner = k .inner;
   room = N .room;
-  two = near-others n t near a p (k .valid) N (k .a-lt) (k .a-p) (k .inner);
+  two = near-others _ _ _ _ _ (k .valid) N (k .a-lt) (k .a-p) (k .inner);
 }
 
 -- the same at a's other end q, after one end has moved
-kept-moves : (n : ℕ) (t near : List ℕ) (p q a b c : ℕ) → EndFits n t p a b → far t a p ≡ q
+kept-moves : {n : ℕ} {t near : List ℕ} {p q a b c : ℕ} → EndFits n t p a b → far t a p ≡ q
     → EndMoves n t near q a c → EndMoves n (moveEnd n t p a b) near q a c
-kept-moves n t near p q a b c k e m = record {
+kept-moves {q = q} {a = a} k e m = record {
   good = valid-accepted (m .good .few) (moveEnd-valid k);
   a-lt = m .a-lt;
   b-lt = m .b-lt;
@@ -77,20 +77,16 @@ module _ {n : ℕ} {t near : List ℕ} {p : Plan} (k : Rewrites n t near p) wher
   pub rights : PlanRight n t p
   rights = plan-right vt (k .plan)
 
-  pub first-moves : SideMoves n t near (p .row) (p .first)
-  first-moves g =
-      fits-moves n t near (p .first .node) (p .row) (p .first .target) (k .good .few)
-      (side-end vt (rights .row) (rights .first) g) (k .holds)
+  at-end : {s : Side} → SideRight n t (p .row) s → SideMoves n t near (p .row) s
+  at-end r g = fits-moves (k .good .few) (side-end vt (rights .row) r g) (k .holds)
 
-  alone : SideMoves n t near (p .row) (p .second)
-  alone g =
-      fits-moves n t near (p .second .node) (p .row) (p .second .target) (k .good .few)
-      (side-end vt (rights .row) (rights .second) g) (k .holds)
+  pub first-moves : SideMoves n t near (p .row) (p .first)
+  first-moves = at-end (rights .first)
 
   -- The second end, once the first has moved or stays.
   pub second-moves : {t₁ : List ℕ} → t₁ ≡ sideMoved n t (p .row) (p .first)
       → SideMoves n t₁ near (p .row) (p .second)
-  second-moves {t₁} e =
+  second-moves e =
       subst (λ (u : List ℕ). SideMoves n u near (p .row) (p .second)) (sym e)
       (go (p .first .goes) refl)
     where
@@ -98,27 +94,6 @@ module _ {n : ℕ} {t near : List ℕ} {p : Plan} (k : Rewrites n t near p) wher
           → SideMoves n (pick b (moveEnd n t (p .first .node) (p .row) (p .first .target)) t) near
           (p .row) (p .second)
       go true h g =
-          kept-moves n t near (p .first .node) (p .second .node) (p .row) (p .first .target)
-          (p .second .target)
-          (side-end vt (rights .row) (rights .first) h) (rights .ends) (alone g)
-      go false h g = alone g
-
--- ---- the table after a plan
-module _ (n : ℕ) (t : List ℕ) (p : Plan) where
-  pub exchanged : {t₁ : List ℕ} → p .nni ≡ true
-      → t₁ ≡ nni t (p .row) (p .first .target) (p .second .target) → t₁ ≡ planMoved n t p
-  unfolding planMoved
-  exchanged h e = rw h e
-
-  pub both-moved : {t₁ t₂ : List ℕ} → p .nni ≡ false → t₁ ≡ sideMoved n t (p .row) (p .first)
-      → t₂ ≡ sideMoved n t₁ (p .row) (p .second) → t₂ ≡ planMoved n t p
-  unfolding planMoved
-  both-moved h e f = rw h (f ∙ ap (λ (u : List ℕ). sideMoved n u (p .row) (p .second)) e)
-
--- ---- an end that goes, and one that stays
-module _ (n : ℕ) (t : List ℕ) (a : ℕ) (s : Side) where
-  pub goes : s .goes ≡ true → moveEnd n t (s .node) a (s .target) ≡ sideMoved n t a s
-  goes h = rw h
-
-  pub stays : s .goes ≡ false → t ≡ sideMoved n t a s
-  stays h = rw h
+          kept-moves (side-end vt (rights .row) (rights .first) h) (rights .ends)
+          (at-end (rights .second) g)
+      go false h g = at-end (rights .second) g

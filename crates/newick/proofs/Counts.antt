@@ -12,9 +12,9 @@ use Rattle.newick_reader.specs.Promises.{Right, Reads, of-count, of-text, of-ro
 use Rattle.newick_reader.specs.Promises.{readingSays}
 use Rattle.newick_reader.specs.Promises.{Plants}
 
-pub read-right : (n : ℕ) (s out out′ : List ℕ) (r : Reading)
-    → Plants n s out r out′ → r ≡ reading.Table → Right n
-read-right n s out out′ r p e = go (p .is)
+pub read-right : {n : ℕ} {s out out′ : List ℕ} {r : Reading} → Plants n s out r out′
+    → r ≡ reading.Table → Right n
+read-right {n} {s} {out} p e = go (p .is)
   where
     said : gives tt ≡ tells done (p .said)
     said = sym (ap readingSays e) ∙ p .call .says

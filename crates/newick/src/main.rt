@@ -110,7 +110,7 @@ fn answer(input: &[u8]) {
         refuse(Refusal::Count);
         return;
     }
-    turn(taxa_in(&input[..end]), &input[end + 1..]);
+    turn(taxa_in(&input[0..end]), &input[end + 1..]);
 }
 
 // Answers the input where it was read whole; a failure is said on standard

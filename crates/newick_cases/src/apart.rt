@@ -5,6 +5,7 @@ use case_lines::number;
 use case_lines::size;
 use case_lines::title;
 use case_lines::word;
+use case_lists::first_mut;
 use case_lists::table_bytes;
 use case_prints::line;
 use case_prints::tell;
@@ -26,13 +27,15 @@ fn compared(l: &[u8], text: &[u8], lent: &mut [u8], other: &[u8]) {
     line(title(l, 5));
 }
 
+// Room for the table of a case.
+fn room<'a>(l: &[u8], t: &'a mut [u8]) -> &'a mut [u8] {
+    first_mut(t, table_bytes(size(l, 1)))
+}
+
 // A case `table TAXA TEXT TABLE PARTITION TITLE`.
 pub fn table(l: &[u8], text: &[u8], other: &[u8]) {
-    let m = table_bytes(size(l, 1));
     let mut t = [MARK; ROOM];
-    if m <= ROOM {
-        compared(l, text, &mut t[..m], other);
-    }
+    compared(l, text, room(l, &mut t), other);
 }
 
 // The same with the table of a second text, read into what is lent.
@@ -43,9 +46,6 @@ fn both(l: &[u8], text: &[u8], other: &[u8], lent: &mut [u8]) {
 
 // A case `beside TAXA TEXT TEXT PARTITION TITLE`.
 pub fn beside(l: &[u8], text: &[u8], other: &[u8]) {
-    let m = table_bytes(size(l, 1));
     let mut t = [MARK; ROOM];
-    if m <= ROOM {
-        both(l, text, other, &mut t[..m]);
-    }
+    both(l, text, other, room(l, &mut t));
 }

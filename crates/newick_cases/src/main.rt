@@ -4,10 +4,9 @@
 mod apart;
 mod texts;
 
-use case_lines::first;
 use case_lines::head;
 use case_lines::word;
-use case_lists::bytes;
+use case_lists::given;
 
 // The most bytes of a text that a case can have.
 const LONG: usize = 512;
@@ -28,10 +27,9 @@ fn on_text(l: &[u8], text: &[u8], other: &[u8]) {
 // Runs the case in a line.
 fn case(input: &[u8], l: &[u8]) {
     let mut s = [0u8; LONG];
-    let long = bytes(input, word(l, 2), &mut s);
     let mut u = [0u8; LONG];
-    let also = bytes(input, word(l, 3), &mut u);
-    on_text(l, first(&s, long), first(&u, also));
+    let text = given(input, word(l, 2), &mut s);
+    on_text(l, text, given(input, word(l, 3), &mut u));
 }
 
 // Runs the cases in their order.
@@ -50,6 +48,5 @@ fn run(input: &[u8]) {
 // Reads the cases and runs them.
 fn main() {
     let mut input = io::large_buffer();
-    let got = case_lines::read(&mut input);
-    run(first(&input, got));
+    run(case_lines::read(&mut input));
 }

@@ -2,6 +2,7 @@
 use case_lines::first;
 use case_lines::size;
 use case_lines::title;
+use case_lists::first_mut;
 use case_lists::marked;
 use case_prints::kept;
 use case_prints::line;
@@ -55,11 +56,9 @@ pub fn cuts(l: &[u8], text: &[u8]) {
 
 // A case `lend TAXA TEXT ROOM FROM TITLE`.
 pub fn lend(l: &[u8], text: &[u8]) {
-    let room = size(l, 3);
     let mut t = [MARK; ROOM];
-    if room <= ROOM {
-        read(size(l, 1), text, &mut t[..room], size(l, 4), title(l, 5));
-    }
+    let lent = first_mut(&mut t, size(l, 3));
+    read(size(l, 1), text, lent, size(l, 4), title(l, 5));
 }
 
 // Two lines for a text that is accepted: the answer, and the rows of the lent
@@ -73,9 +72,7 @@ fn accepted(n: usize, text: &[u8], lent: &mut [u8], words: &[u8]) {
 
 // A case `accept TAXA TEXT ROOM TITLE`.
 pub fn accept(l: &[u8], text: &[u8]) {
-    let room = size(l, 3);
     let mut t = [MARK; ROOM];
-    if room <= ROOM {
-        accepted(size(l, 1), text, &mut t[..room], title(l, 4));
-    }
+    let lent = first_mut(&mut t, size(l, 3));
+    accepted(size(l, 1), text, lent, title(l, 4));
 }

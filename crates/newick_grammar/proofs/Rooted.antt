@@ -41,7 +41,7 @@ pub record Rooted (n : ℕ) (t : List ℕ) : Type 0 where
   pub twice : (p : ℕ) → n ≤ p
       → under t p (rows n) ≡ 2 * low (rows n) p + 3 * tally (eqb (rows n) p)
 
-module _ (n : ℕ) (t : List ℕ) (big : 4 ≤ n) (w : Rooted n t) where
+module _ {n : ℕ} {t : List ℕ} (big : 4 ≤ n) (w : Rooted n t) where
   -- the rows at a node: its own, and those below it
   at-node : (v k : ℕ) → k ≤ rows n
       → count (λ r. touches t r v) k ≡ low k v + under t v k

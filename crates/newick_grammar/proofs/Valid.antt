@@ -290,6 +290,5 @@ list-whole n (three a b c) big each =
 pub table-valid : (n : ℕ) (o : Outermost) → 4 ≤ n → EachOnce n o
     → Valid n (table n o)
 table-valid n o big each =
-    subst (Valid n) (sym (list-table n o))
-    (rooted-valid n (joins (listed n o) (blank n)) big
-    (whole-rooted n (listed n o) big (list-whole n o big each)))
+    subst (Valid n) (sym (list-table n o)) (rooted-valid big
+    (whole-rooted big (list-whole n o big each)))

@@ -199,9 +199,9 @@ pub record Whole (n : ℕ) (w : Writes) : Type 0 where
       → seconds p w + 2 * low n p ≡ 2 * low (rows n) p + 3 * tally (eqb (rows n) p)
 
 -- then the table has each node's row and each node's number of rows
-pub whole-rooted : (n : ℕ) (w : Writes) → 4 ≤ n → Whole n w
+pub whole-rooted : {n : ℕ} {w : Writes} → 4 ≤ n → Whole n w
     → Rooted n (joins w (blank n))
-whole-rooted n w big h =
+whole-rooted {n} {w} big h =
     let t = joins w (blank n) in
     let len = blank-length n in
     let at : (r : ℕ) → r < rows n → Row n (nodes n) r t

@@ -45,64 +45,64 @@ has-mark (group l r) u h x =
     (λ y. omega (arith, h y)) in
     has-mark r (mark l u) (λ y. omega (arith, h y, L y)) x ∙ omega (arith, L x)
 
-module _ (n u m : ℕ) (o : Bool) where
-  pub below-n : (t : Member) → Fits n u m o t → Below n t
-  below-n t f x p = go (ltb x n) refl
+module _ {n u m : ℕ} {o : Bool} where
+  pub below-n : {t : Member} → Fits n u m o t → Below n t
+  below-n f x p = go (ltb x n) refl
     where
       go : (b : Bool) → ltb x n ≡ b → x < n
       go true e = ltb-true x n e
       go false e = absurd (omega (arith, p, rw e at (f .once x)))
 
-  pub below : (t : Member) → n ≤ most → Fits n u m o t → Below 100 t
-  below t few f x p = omega (arith, few, below-n t f x p)
+  pub below : {t : Member} → n ≤ most → Fits n u m o t → Below 100 t
+  below few f x p = omega (arith, few, below-n f x p)
 
-  pub marked : (t : Member) → Fits n u m o t → (x : ℕ)
+  pub marked : {t : Member} → Fits n u m o t → (x : ℕ)
       → tally (has (mark t u) x) ≡ tally (has u x) + times x t
-  marked t f = has-mark t u
+  marked {t} f = has-mark t u
       (λ x. omega (arith, f .once x, tally-one (ltb x n)))
 
-  pub mark-within : (t : Member) → Fits n u m o t → (x : ℕ)
+  pub mark-within : {t : Member} → Fits n u m o t → (x : ℕ)
       → tally (has (mark t u) x) ≤ tally (ltb x n)
-  mark-within t f x = omega (arith, marked t f x, f .once x)
+  mark-within f x = omega (arith, marked f x, f .once x)
 
-  pub mark-size : (t : Member) → Fits n u m o t
+  pub mark-size : {t : Member} → Fits n u m o t
       → size n (mark t u) ≡ size n u + suc (groups t)
-  mark-size t f = size-with n t u (mark t u) (marked t f)
-      ∙ ap (λ (k : ℕ). size n u + k) (labels-all n t (below-n t f))
+  mark-size {t} f = size-with n t u (mark t u) (marked f)
+      ∙ ap (λ (k : ℕ). size n u + k) (labels-all n t (below-n f))
 
   -- ---- the members of a group
-  pub fits-left : (l r : Member) → Fits n u m o (group l r)
+  pub fits-left : {l r : Member} → Fits n u m o (group l r)
       → Fits n u (suc m) true l
   unfolding times groups
-  fits-left l r f = record {
+  fits-left f = record {
     once = λ x. omega (arith, f .once x);
     room = omega (arith, f .room);
     full = λ e. absurd (true≢false e);
   }
 
-  pub fits-right : (l r : Member) → Fits n u m o (group l r)
+  pub fits-right : {l r : Member} → Fits n u m o (group l r)
       → Fits n (mark l u) m o r
   unfolding times groups
-  fits-right l r f =
-      let L = fits-left l r f in
+  fits-right {l} f =
+      let L = fits-left f in
       let M : (x : ℕ) → tally (has (mark l u) x) ≡ tally (has u x) + times x l = has-mark l u
       (λ x. omega (arith, L .once x, tally-one (ltb x n))) in
       let S : size n (mark l u) ≡ size n u + suc (groups l) = size-with n l u
       (mark l u) M ∙ ap (λ (k : ℕ). size n u + k)
-      (labels-all n l (λ x p. below-n (group l r) f x (omega (arith, p)))) in
+      (labels-all n l (λ x p. below-n f x (omega (arith, p)))) in
       record {
         once = λ x. omega (arith, f .once x, M x);
         room = omega (arith, f .room, S);
         full = λ e. omega (arith, f .full e, S);
       }
 
-module _ (n u m : ℕ) (o : Bool) where
-  pub fits-group : (l r : Member) → Fits n u (suc m) true l
+module _ {n u m : ℕ} {o : Bool} where
+  pub fits-group : {l r : Member} → Fits n u (suc m) true l
       → Fits n (mark l u) m o r → Fits n u m o (group l r)
   unfolding times groups
-  fits-group l r f g =
-      let M = marked n u (suc m) true l f in
-      let S = mark-size n u (suc m) true l f in
+  fits-group f g =
+      let M = marked f in
+      let S = mark-size f in
       record {
         once = λ x. omega (arith, g .once x, M x);
         room = omega (arith, g .room, S);
@@ -110,10 +110,10 @@ module _ (n u m : ℕ) (o : Bool) where
       }
 
   -- ---- a taxon
-  fits-taxon : (d : ℕ) → Within n u → size n u + m < n → d < n → has u d ≡ false
+  fits-taxon : {d : ℕ} → Within n u → size n u + m < n → d < n → has u d ≡ false
       → (o || eqb (suc (size n u)) n) ≡ true → Fits n u m o (taxon d)
   unfolding times groups
-  fits-taxon d w h l f e = record {
+  fits-taxon {d} w h l f e = record {
     once = λ x. one x (eqb d x) refl;
     room = omega (arith, h);
     full = λ p. omega (
@@ -133,9 +133,9 @@ module _ (n u m : ℕ) (o : Bool) where
       one x false q = rw q (omega (arith, w x))
 
   -- the taxa that are allowed are those that fit
-  pub allowed-fits : (d : ℕ) → Within n u → size n u + m < n
+  pub allowed-fits : {d : ℕ} → Within n u → size n u + m < n
       → has (allowed n u o) d ≡ true → Fits n u m o (taxon d)
-  allowed-fits d w h e = go (o || eqb (suc (size n u)) n) refl e
+  allowed-fits {d} w h e = go (o || eqb (suc (size n u)) n) refl e
     where
       not-has : (b : Bool) → not b ≡ true → b ≡ false
       not-has true q = sym q
@@ -148,24 +148,14 @@ module _ (n u m : ℕ) (o : Bool) where
           (has-less (full n) u d) ∙ q in
           let low : d < n = ltb-true d n
           (sym (has-ones n d) ∙ and-left (has (full n) d) (not (has u d)) both) in
-          fits-taxon d w h low
+          fits-taxon w h low
           (not-has (has u d) (and-right (has (full n) d) (not (has u d)) both)) p
       go false p q = absurd (true≢false (sym q ∙ has-none d))
 
-  pub allowed-low : (d : ℕ) → has (allowed n u o) d ≡ true → d < n
-  allowed-low d e = go (o || eqb (suc (size n u)) n) refl e
-    where
-      go : (b : Bool) → (o || eqb (suc (size n u)) n) ≡ b
-          → has (pick b (less (full n) u) 0) d ≡ true → d < n
-      go true p q = ltb-true d n
-          (sym (has-ones n d) ∙ and-left (has (full n) d) (not (has u d))
-          (sym (has-less (full n) u d) ∙ q))
-      go false p q = absurd (true≢false (sym q ∙ has-none d))
-
-  pub fits-allowed : (d : ℕ) → Fits n u m o (taxon d)
+  pub fits-allowed : {d : ℕ} → Fits n u m o (taxon d)
       → has (allowed n u o) d ≡ true
   unfolding times groups
-  fits-allowed d f =
+  fits-allowed {d} f =
       let self : tally (eqb d d) ≡ 1 = ap tally (eq-eqb d d refl) in
       let new : has u d ≡ false = tally-zero (has u d)
       (omega (arith, self, f .once d, tally-one (ltb d n))) in
@@ -185,19 +175,30 @@ module _ (n u m : ℕ) (o : Bool) where
       go false e q = rw
           (e, eq-eqb (suc (size n u)) n (omega (arith, f .full e))) q
 
+-- they are below n
+pub allowed-low : {n d : ℕ} (u : ℕ) (o : Bool) → has (allowed n u o) d ≡ true → d < n
+allowed-low {n} {d} u o e = go (o || eqb (suc (size n u)) n) refl e
+  where
+    go : (b : Bool) → (o || eqb (suc (size n u)) n) ≡ b
+        → has (pick b (less (full n) u) 0) d ≡ true → d < n
+    go true p q = ltb-true d n
+        (sym (has-ones n d) ∙ and-left (has (full n) d) (not (has u d))
+        (sym (has-less (full n) u d) ∙ q))
+    go false p q = absurd (true≢false (sym q ∙ has-none d))
+
 -- ---- what fits a slot fits one that asks for less
-pub fits-loose : (n u m k : ℕ) (o : Bool) (t : Member) → k ≤ m → Fits n u m o t
+pub fits-loose : {n u m k : ℕ} {o : Bool} {t : Member} → k ≤ m → Fits n u m o t
     → Fits n u k true t
-fits-loose n u m k o t h f = record {
+fits-loose h f = record {
   once = f .once;
   room = omega (arith, f .room, h);
   full = λ e. absurd (true≢false e);
 }
 
 -- ---- all n taxa
-pub fits-each : (n : ℕ) (t : Member) → Fits n 0 0 false t → (x : ℕ)
+pub fits-each : {n : ℕ} {t : Member} → Fits n 0 0 false t → (x : ℕ)
     → times x t ≡ tally (ltb x n)
-fits-each n t f x = go (ltb x n) refl
+fits-each {n} {t} f x = go (ltb x n) refl
   where
     le : (y : ℕ) → times y t ≤ tally (ltb y n)
     le y = omega (arith, f .once y, ap tally (has-none y))
@@ -205,14 +206,14 @@ fits-each n t f x = go (ltb x n) refl
     go : (b : Bool) → ltb x n ≡ b → times x t ≡ tally b
     go true e =
         full-labels n t (λ y. omega (arith, le y, tally-one (ltb y n)))
-        (labels-all n t (λ y p. below-n n 0 0 false t f y p)
+        (labels-all n t (below-n f)
         ∙ omega (arith, f .full refl, size-none n)) x
         (ltb-true x n e)
     go false e = omega (arith, rw e at (le x))
 
-pub each-fits : (n : ℕ) (t : Member) → ((x : ℕ) → times x t ≡ tally (ltb x n))
+pub each-fits : {n : ℕ} {t : Member} → ((x : ℕ) → times x t ≡ tally (ltb x n))
     → Fits n 0 0 false t
-each-fits n t h = record {
+each-fits {n} {t} h = record {
   once = λ x. omega (arith, h x, ap tally (has-none x));
   room = omega (arith, total n t h, size-none n);
   full = λ e. omega (arith, total n t h, size-none n);
@@ -238,7 +239,7 @@ fill-by : (j n u m : ℕ) (o : Bool) → n ≤ size n u + j → Within n u
 unfolding mark groups
 fill-by zero n u m o g w h z = absurd (omega arith)
 fill-by (suc j) n u m true g w h z = let f = free n u (omega arith) in
-    (taxon (f .0), fits-taxon n u m true (f .0) w h (f .1) (f .2) refl)
+    (taxon (f .0), fits-taxon w h (f .1) (f .2) refl)
 fill-by (suc j) n u m false g w h z = go (fill-by j) (free n u (omega arith))
     (eqb (suc (size n u)) n) refl
   where
@@ -246,21 +247,17 @@ fill-by (suc j) n u m false g w h z = go (fill-by j) (free n u (omega arith))
         → (o ≡ false → m ≡ 0) → (t : Member) × Fits n u m o t)
         → (d : ℕ) × (d < n) × (has u d ≡ false) → (b : Bool)
         → eqb (suc (size n u)) n ≡ b → (t : Member) × Fits n u m false t
-    go ih f true q = (taxon (f .0), fits-taxon n u m false (f .0) w h (f .1) (f .2) q)
+    go ih f true q = (taxon (f .0), fits-taxon w h (f .1) (f .2) q)
     go ih f false q =
         let m0 : m ≡ 0 = z refl in
         let r : suc (size n u) < n = lt-of-le-ne (omega (arith, h))
         (eqb-false (suc (size n u)) n q) in
-        let one = fits-taxon n u (suc m) true (f .0) w (omega (arith, m0, r))
-        (f .1) (f .2) refl in
-        let s : size n (add u (f .0)) ≡ size n u + 1 = mark-size n u
-        (suc m) true (taxon (f .0)) one in
+        let one : Fits n u (suc m) true (taxon (f .0)) =
+        fits-taxon w (omega (arith, m0, r)) (f .1) (f .2) refl in
+        let s : size n (add u (f .0)) ≡ size n u + 1 = mark-size one in
         let rest = ih n (add u (f .0)) m false (omega (arith, g, s))
-        (mark-within n u (suc m) true (taxon (f .0)) one)
-        (omega (arith, s, r, m0)) z in (
-          group (taxon (f .0)) (rest .0),
-          fits-group n u m false (taxon (f .0)) (rest .0) one (rest .1),
-        )
+        (mark-within one) (omega (arith, s, r, m0)) z in
+        (group (taxon (f .0)) (rest .0), fits-group one (rest .1))
 
 pub fill : (n u m : ℕ) (o : Bool) → Within n u → size n u + m < n
     → (o ≡ false → m ≡ 0) → (t : Member) × Fits n u m o t

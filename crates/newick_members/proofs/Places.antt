@@ -25,23 +25,24 @@ pub data Agrees (s : List ℕ) (p : ℕ) (x : List ℕ) : Type 0 where
 pub as-tree : (n : ℕ) {a b : List ℕ} → a ≡ b → IsTree n a → IsTree n b
 as-tree n e t = subst (IsTree n) e t
 
-module _ (n : ℕ) (s : List ℕ) (p : ℕ) (inside : p ≤ length s) where
-  rest-agrees : Agrees s p (drop p s)
-  rest-agrees = go (ltb p (length s)) refl
-    where
-      go : (b : Bool) → ltb p (length s) ≡ b → Agrees s p (drop p s)
-      go true e = byte (ltb-true p (length s) e) (drop (suc p) s)
-          (drop-cons s p 0 (ltb-true p (length s) e))
-      go false e = let l = ltb-false p
-          (length s) e in ended (omega (arith, l, inside))
-          (drop-of-length-le s l)
+rest-agrees : {s : List ℕ} {p : ℕ} → p ≤ length s → Agrees s p (drop p s)
+rest-agrees {s} {p} inside = go (ltb p (length s)) refl
+  where
+    go : (b : Bool) → ltb p (length s) ≡ b → Agrees s p (drop p s)
+    go true e =
+        let l = ltb-true p (length s) e in
+        byte l (drop (suc p) s) (drop-cons s p 0 l)
+    go false e =
+        let l = ltb-false p (length s) e in
+        ended (omega (arith, l, inside)) (drop-of-length-le s l)
 
+module _ {n : ℕ} {s : List ℕ} {p : ℕ} (inside : p ≤ length s) where
   -- what was read goes on to a tree, and not as the text does
   pub stuck : GoesOn n (take p s)
       → ((x : List ℕ) → Agrees s p x → IsTree n (take p s ++ x) → ⊥)
       → NoTree n s p
   stuck g dead = record {
-    none = λ t. dead (drop p s) rest-agrees
+    none = λ t. dead (drop p s) (rest-agrees inside)
         (as-tree n (sym (take-append-drop p s)) t);
     inside = inside;
     before = g;
@@ -76,11 +77,11 @@ module _ (s : List ℕ) (p b : ℕ) (e : here s p b ≡ true) where
       (step s x p here-in ∙ ap (λ (c : ℕ). take p s ++ (c ∷ x)) here-is)
 
 -- what follows a member is settled by the byte there
-pub over-agrees : (t : Member) (s : List ℕ) (p : ℕ) (x : List ℕ)
+pub over-agrees : (t : Member) {s : List ℕ} {p : ℕ} {x : List ℕ}
     → Over t (drop p s) → Agrees s p x → Over t x
 unfolding Stop
-over-agrees (group l r) s p x h a = tt
-over-agrees (taxon d) s p x h a = λ i j. go x (h i j) a
+over-agrees (group l r) h a = tt
+over-agrees (taxon d) {s} {p} {x} h a = λ i j. go x (h i j) a
   where
     go : (x : List ℕ) → Stop (drop p s) → Agrees s p x → Stop x
     go x k (byte l y e) = rw e (rw (drop-cons s p 0 l) at k)

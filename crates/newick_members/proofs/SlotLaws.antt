@@ -17,7 +17,6 @@ use Rattle.newick_grammar.specs.Newick.{Member, taxon, group, text, times, IsTr
 use Rattle.newick_grammar.specs.Newick.{opens}
 use Rattle.newick_grammar.specs.Newick.{comma, closes}
 use Rattle.newick_grammar.specs.Numbers.{groups}
-use Rattle.newick_grammar.proofs.Labels.{Below}
 use Rattle.newick_members.specs.Between.{mark, Fits, allowed, Over, Onward, Slot, here, Past}
 use Rattle.newick_members.proofs.Members.{below, mark-within, mark-size, fits-left}
 use Rattle.newick_members.proofs.Members.{fits-right, fits-group, allowed-fits, fits-allowed}
@@ -26,10 +25,7 @@ use Rattle.newick_members.proofs.Members.{next-at, settled, text-some}
 use Rattle.newick_members.proofs.Places.{Agrees, byte, ended, as-tree, stuck, expect}
 use Rattle.newick_members.proofs.Places.{here-in, here-step, over-agrees, from-on}
 
-module _ (n : ℕ) (few : n ≤ most) (s : List ℕ) (at u m : ℕ) (o : Bool) (S : Slot n s at u m o) where
-  low : (t : Member) → Fits n u m o t → Below 100 t
-  low t f = below n u m o t few f
-
+module _ {n : ℕ} (few : n ≤ most) {s : List ℕ} {at u m : ℕ} {o : Bool} (S : Slot n s at u m o) where
   -- some member goes on
   goes : GoesOn n (take at s)
   goes =
@@ -39,27 +35,26 @@ module _ (n : ℕ) (few : n ≤ most) (s : List ℕ) (at u m : ℕ) (o : Bool) (
 
   -- the text ends here
   pub no-more : length s ≤ at → NoTree n s at
-  no-more h = stuck n s at (S .inside) goes (λ x a t. no x a (S .settles x t))
+  no-more h = stuck (S .inside) goes (λ x a t. no x a (S .settles x t))
     where
       no : (x : List ℕ) → Agrees s at x → Onward n u m o x → ⊥
       no x (byte l y e) q = absurd (omega (arith, h, l))
-      no x (ended l e) q = text-some (q .member) (q .rest)
-          (low (q .member) (q .fits)) (sym e ∙ q .is)
+      no x (ended l e) q = text-some (q .member) (q .rest) (below few (q .fits))
+          (sym e ∙ q .is)
 
   -- no label begins with a parenthesis
   no-taxon : (d : ℕ) (w y : List ℕ) → Fits n u m o (taxon d)
       → opens ∷ y ≡ text (taxon d) w → ⊥
   unfolding text times
   no-taxon d w y f e =
-      let l = label-first d w
-      (low (taxon d) f d (rw (eq-eqb d d refl) (omega arith))) in
+      let l = label-first d w (below few f d (rw (eq-eqb d d refl) (omega arith))) in
       omega (arith, l .3, head-eq-of-cons-eq (e ∙ l .2))
 
   -- a group for which too few taxa are left
   pub too-deep : at < length s → getD s at 0 ≡ opens → n < size n u + m + 2
       → NoTree n s at
   unfolding groups
-  too-deep h b r′ = stuck n s at (S .inside) goes
+  too-deep h b r′ = stuck (S .inside) goes
       (λ x a t. no x a (S .settles x t))
     where
       no : (x : List ℕ) → Agrees s at x → Onward n u m o x → ⊥
@@ -96,11 +91,11 @@ module _ (n : ℕ) (few : n ≤ most) (s : List ℕ) (at u m : ℕ) (o : Bool) (
             → getD s at 0 ∷ y ≡ text t w
             → (d : ℕ) × (w : List ℕ) × (has (allowed n u o) d ≡ true) × Stop w
             × (getD s at 0 ∷ y ≡ decimal d ++ w)
-        go (taxon d) f w k e = (d, w, fits-allowed n u m o d f, k, e)
+        go (taxon d) f w k e = (d, w, fits-allowed f, k, e)
         go (group l r) f w k e = absurd (b (head-eq-of-cons-eq e))
 
-    pub bad-label : (p : ℕ) → Missed s at (allowed n u o) p → NoTree n s p
-    bad-label p M = record {
+    pub bad-label : {p : ℕ} → Missed s at (allowed n u o) p → NoTree n s p
+    bad-label {p} M = record {
       none = λ t. whole
           (is-taxon (drop (suc at) s)
           (as-tree n (sym (take-append-drop at s)
@@ -123,7 +118,7 @@ module _ (n : ℕ) (few : n ≤ most) (s : List ℕ) (at u m : ℕ) (o : Bool) (
             → GoesOn n (take p s)
         goes-to (inl e) = subst (λ (i : ℕ). GoesOn n (take i s)) (sym e) goes
         goes-to (inr (d, w, i, e)) = taxon-on d p w e
-            (S .fills (taxon d) (allowed-fits n u m o d (S .within) (S .room) i))
+            (S .fills (taxon d) (allowed-fits (S .within) (S .room) i))
 
         later : p < length s → (x : List ℕ) → IsTree n (take (suc p) s ++ x) → ⊥
         later l x t =
@@ -133,11 +128,11 @@ module _ (n : ℕ) (few : n ≤ most) (s : List ℕ) (at u m : ℕ) (o : Bool) (
             M .there l x (f .0) (f .1) (f .2) (λ i j. f .3)
             (q .1 ∙ ap (λ (z : List ℕ). take at s ++ z) (f .4))
 
-  pub past-taxon : (d p : ℕ) → Found s at (allowed n u o) d p
+  pub past-taxon : {d p : ℕ} → Found s at (allowed n u o) d p
       → Past n s at u m o (taxon d) p
   unfolding text
-  past-taxon d p f = record {
-    fits = allowed-fits n u m o d (S .within) (S .room) (f .among);
+  past-taxon f = record {
+    fits = allowed-fits (S .within) (S .room) (f .among);
     is = f .is;
     moved = f .moved;
     inside = f .inside;
@@ -193,18 +188,17 @@ module _ (n : ℕ) (few : n ≤ most) (s : List ℕ) (at u m : ℕ) (o : Bool) (
         member = q .left;
         rest = comma ∷ text (q .right) (closes ∷ q .rest);
         next = next-at comma _ refl;
-        fits = fits-left n u m o (q .left) (q .right) (q .fits);
+        fits = fits-left (q .fits);
         is = q .is;
       };
       fills = λ l f.
-          let g = fill n (mark l u) m o (mark-within n u (suc m) true l f)
-          (omega (arith, mark-size n u (suc m) true l f, f .room))
+          let g = fill n (mark l u) m o (mark-within f) (omega (arith, mark-size f, f .room))
           (S .last) in
-          let k = to-group l (g .0) (fits-group n u m o l (g .0) f (g .1)) in
+          let k = to-group l (g .0) (fits-group f (g .1)) in
           (comma ∷ text (g .0) (closes ∷ k .0), k .1);
     }
 
-    module _ (l : Member) (p : ℕ) (L : Past n s (at + 1) u (suc m) true l p) where
+    module _ {l : Member} {p : ℕ} (L : Past n s (at + 1) u (suc m) true l p) where
       -- a tree goes on after the first member as this group does
       after-left : (x : List ℕ) → Over l x → IsTree n (take p s ++ x)
           → (r : Member) × (w : List ℕ) × Fits n (mark l u) m o r
@@ -213,28 +207,23 @@ module _ (n : ℕ) (few : n ≤ most) (s : List ℕ) (at u m : ℕ) (o : Bool) (
           let q = opened (text l x) (as-tree n (L .is x) t) in
           let e = settled l (q .left) x
           (comma ∷ text (q .right) (closes ∷ q .rest))
-          (below n u (suc m) true l few (L .fits))
-          (below n u (suc m) true (q .left) few (fits-left n u m o (q .left) (q .right) (q .fits)))
-          v
-          (stop-at comma _ refl) (q .is) in
+          (below few (L .fits)) (below few (fits-left (q .fits))) v (stop-at comma _ refl)
+          (q .is) in
           let f : Fits n u m o (group l (q .right)) = subst
           (λ (k : Member). Fits n u m o (group k (q .right))) (sym (e .0))
           (q .fits) in
-          (q .right, q .rest, fits-right n u m o l (q .right) f, e .1)
+          (q .right, q .rest, fits-right f, e .1)
 
       pub no-comma : here s p comma ≡ false → NoTree n s p
       no-comma e =
-          let g = fill n (mark l u) m o
-          (mark-within n u (suc m) true l (L .fits))
-          (omega (arith, mark-size n u (suc m) true l (L .fits), L .fits .room))
-          (S .last) in
-          let k = to-group l (g .0)
-          (fits-group n u m o l (g .0) (L .fits) (g .1)) in
-          expect n s p (L .inside) comma (
+          let g = fill n (mark l u) m o (mark-within (L .fits))
+          (omega (arith, mark-size (L .fits), L .fits .room)) (S .last) in
+          let k = to-group l (g .0) (fits-group (L .fits) (g .1)) in
+          expect (L .inside) comma (
             comma ∷ text (g .0) (closes ∷ k .0),
             as-tree n (sym (L .is (comma ∷ text (g .0) (closes ∷ k .0)))) (k .1),
           )
-          (λ x a t. let q = after-left x (over-agrees l s p x (L .over) a) t in
+          (λ x a t. let q = after-left x (over-agrees l (L .over) a) t in
           (text (q .0) (closes ∷ q .1), q .3)) e
 
       module _ (c : here s p comma ≡ true) where
@@ -249,7 +238,7 @@ module _ (n : ℕ) (few : n ≤ most) (s : List ℕ) (at u m : ℕ) (o : Bool) (
         to-right : (r : Member) → Fits n (mark l u) m o r
             → (w : List ℕ) × IsTree n (take (p + 1) s ++ text r (closes ∷ w))
         to-right r f =
-            let k = to-group l r (fits-group n u m o l r (L .fits) f) in (
+            let k = to-group l r (fits-group (L .fits) f) in (
               k .0,
               as-tree n (sym (here-step s p comma c (text r (closes ∷ k .0))
                   ∙ L .is (comma ∷ text r (closes ∷ k .0)))) (k .1),
@@ -259,9 +248,8 @@ module _ (n : ℕ) (few : n ≤ most) (s : List ℕ) (at u m : ℕ) (o : Bool) (
         pub right-slot : Slot n s (p + 1) (mark l u) m o
         right-slot = record {
           inside = omega (arith, here-in s p comma c);
-          within = mark-within n u (suc m) true l (L .fits);
-          room = omega
-              (arith, mark-size n u (suc m) true l (L .fits), L .fits .room);
+          within = mark-within (L .fits);
+          room = omega (arith, mark-size (L .fits), L .fits .room);
           last = S .last;
           settles = λ x t. let q = after-comma x t in record {
             member = q .0;
@@ -273,18 +261,16 @@ module _ (n : ℕ) (few : n ≤ most) (s : List ℕ) (at u m : ℕ) (o : Bool) (
           fills = λ r f. let k = to-right r f in (closes ∷ k .0, k .1);
         }
 
-        module _ (r : Member) (q : ℕ) (R : Past n s (p + 1) (mark l u) m o r q) where
+        module _ {r : Member} {q : ℕ} (R : Past n s (p + 1) (mark l u) m o r q) where
           pub no-close : here s q closes ≡ false → NoTree n s q
           no-close e =
               let k = to-right r (R .fits) in
-              expect n s q (R .inside) closes
+              expect (R .inside) closes
               (closes ∷ k .0, as-tree n (sym (R .is (closes ∷ k .0))) (k .1))
               (λ x a t.
               let f = after-comma (text r x) (as-tree n (R .is x) t) in
-              let g = settled r (f .0) x (closes ∷ f .1)
-              (below n (mark l u) m o r few (R .fits))
-              (below n (mark l u) m o (f .0) few (f .2))
-              (over-agrees r s q x (R .over) a) (stop-at closes _ refl)
+              let g = settled r (f .0) x (closes ∷ f .1) (below few (R .fits)) (below few (f .2))
+              (over-agrees r (R .over) a) (stop-at closes _ refl)
               (f .3) in
               (f .1, g .1)) e
 
@@ -292,7 +278,7 @@ module _ (n : ℕ) (few : n ≤ most) (s : List ℕ) (at u m : ℕ) (o : Bool) (
               → Past n s at u m o (group l r) (q + 1)
           unfolding text
           past-group e = record {
-            fits = fits-group n u m o l r (L .fits) (R .fits);
+            fits = fits-group (L .fits) (R .fits);
             is = λ x. here-step s q closes e x ∙ R .is (closes ∷ x)
                 ∙ here-step s p comma c (text r (closes ∷ x))
                 ∙ L .is (comma ∷ text r (closes ∷ x))

@@ -9,18 +9,16 @@ use native.Mathlib.Omega.{arith}
 use lib.Dec.{ltb}
 use lib.ListN.{length, take, getD, length-append}
 use lib.Seq.{take-all}
-use borrow.Author.Tests.{lt-ltb, le-ltb, ltb-true, ltb-false, eq-eqb, ne-eqb}
+use borrow.Author.Tests.{lt-ltb, ltb-true, ltb-false, eq-eqb, ne-eqb}
 use Rattle.taxa.specs.Most.{most}
 use Rattle.taxa.specs.Sets.{tally, has, less, full, size}
 use Rattle.taxa.proofs.Bools.{either}
 use Rattle.taxa.proofs.Sizes.{size-wide}
 use Rattle.tree.specs.Tree.{rows}
 use Rattle.lines.specs.Lines.{decimal}
-use Rattle.newick_labels.specs.Between.{Found, Missed, LabelIs}
-use Rattle.newick_labels.specs.declared.Label.{Label}
-use Rattle.newick_labels.specs.declared.Label.the-variants as label
+use Rattle.newick_labels.specs.Between.{Missed}
 use Rattle.newick_grammar.specs.Newick.{taxon, group, NoTree, opens, comma}
-use Rattle.newick_grammar.specs.Numbers.{groups, node, join, withRows, smaller, larger}
+use Rattle.newick_grammar.specs.Numbers.{groups, node, join, withRows}
 use Rattle.newick_grammar.proofs.Writes.{length-join}
 use Rattle.newick_grammar.proofs.Valid.{node-lt, length-rows}
 use Rattle.newick_members.specs.declared.Cursor.{Cursor}
@@ -35,36 +33,20 @@ use Rattle.newick_members.proofs.SlotLaws.{left-slot, no-comma, right-s
 use Rattle.newick_members.proofs.SlotLaws.{past-group}
 
 -- ---- the end of a group: its two rows
-module _ (s t : List ℕ) (c : Cursor) (x y : ℕ) (C : Closes s t c x y) where
+module _ {s t : List ℕ} {c : Cursor} {x y : ℕ} (C : Closes s t c x y) where
   pub row-first : (2 * x + 1 < length t) × (x < 256) × (c .next < 256)
   row-first = (C .first, C .small .0, C .small .2)
 
-  pub row-second : (u : List ℕ) → u ≡ join x (c .next) t
+  pub row-second : {u : List ℕ} → u ≡ join x (c .next) t
       → (2 * y + 1 < length u) × (y < 256) × (c .next < 256)
-  row-second u e = (
+  row-second e = (
     omega (arith, C .second, ap length e ∙ length-join t x (c .next)),
     C .small .1,
     C .small .2,
   )
 
--- ---- the row between two nodes, by the order of their numbers
-module _ (t : List ℕ) (x y : ℕ) where
-  pub row-below : x < y → 2 * smaller x y + 1 < length t → 2 * x + 1 < length t
-  row-below l h = rw (lt-ltb x y l) at h
-
-  pub row-above : y ≤ x → 2 * smaller x y + 1 < length t → 2 * y + 1 < length t
-  row-above l h = rw (le-ltb x y l) at h
-
-  pub joined-below : x < y → (u : List ℕ) → u ≡ join x y t
-      → u ≡ join (smaller x y) (larger x y) t
-  joined-below l u e = rw (lt-ltb x y l) e
-
-  pub joined-above : y ≤ x → (u : List ℕ) → u ≡ join y x t
-      → u ≡ join (smaller x y) (larger x y) t
-  joined-above l u e = rw (le-ltb x y l) e
-
 -- ---- the taxa that may stand alone
-module _ (n u : ℕ) (few : n ≤ most) (w : Within n u) where
+module _ {n : ℕ} (u : ℕ) (few : n ≤ most) (w : Within n u) where
   -- the size that the code counts is the one of the definitions
   pub size-is : size most u ≡ size n u
   size-is = size-wide n most u few (λ i p. below i p (either (ltb i n)))
@@ -73,45 +55,26 @@ module _ (n u : ℕ) (few : n ≤ most) (w : Within n u) where
       below i p (inl e) = ltb-true i n e
       below i p (inr e) = absurd (omega (arith, w i, ap tally p, ap tally e))
 
-  pub free-more : (o : Bool) → o ≡ true → less (full n) u ≡ allowed n u o
-  free-more o e = rw e
-
-  pub free-last : (o : Bool) → o ≡ false → size most u + 1 ≡ n
+  pub free-last : {o : Bool} → o ≡ false → size most u + 1 ≡ n
       → less (full n) u ≡ allowed n u o
-  free-last o e h = rw
+  free-last e h = rw
       (e, eq-eqb (suc (size n u)) n (omega (arith, h, size-is)))
 
-  pub free-none : (o : Bool) → o ≡ false → (size most u + 1 ≡ n → ⊥)
+  pub free-none : {o : Bool} → o ≡ false → (size most u + 1 ≡ n → ⊥)
       → 0 ≡ allowed n u o
-  free-none o e h = rw
+  free-none e h = rw
       (e, ne-eqb (suc (size n u)) n (λ q. h (omega (arith, q, size-is))))
 
--- ---- a label that was read, among the taxa that may stand there
-module _ (s : List ℕ) (at f : ℕ) (n u : ℕ) (o : Bool) (is : f ≡ allowed n u o) (r : Label)
-    (L : LabelIs s at f r) where
-  pub label-bad : (p : ℕ) → r ≡ label.Bad p → Missed s at (allowed n u o) p
-  label-bad p e = subst (λ (v : ℕ). Missed s at v p) is
-      (subst (LabelIs s at f) e L)
-
-  pub label-found : (d p : ℕ) → r ≡ label.Taxon d p
-      → Found s at (allowed n u o) d p
-  label-found d p e = subst (λ (v : ℕ). Found s at v d p) is
-      (subst (LabelIs s at f) e L)
-
-  pub label-low : n ≤ most → (d p : ℕ) → r ≡ label.Taxon d p → d < most
-  label-low few d p e = omega
-      (arith, few, allowed-low n u 0 o d (label-found d p e .among))
-
 -- no label stands at the end of the text
-pub label-none : (s : List ℕ) (at n u : ℕ) (o : Bool) → n ≤ most → length s ≤ at
+pub label-none : {s : List ℕ} {at n : ℕ} (u : ℕ) (o : Bool) → n ≤ most → length s ≤ at
     → at ≤ length s → Missed s at (allowed n u o) at
-label-none s at n u o few h k = record {
+label-none {s} {at} u o few h k = record {
   after = omega arith;
   inside = k;
   before = inl refl;
   there = λ l x d w m e q. absurd (omega (arith, h, l));
   none = λ d w m e q. absurd
-      (some d w (omega (arith, few, allowed-low n u 0 o d m)) q);
+      (some d w (omega (arith, few, allowed-low u o m)) q);
 }
   where
     some : (d : ℕ) (w : List ℕ) → d < 100 → s ≡ take at s ++ (decimal d ++ w)
@@ -123,30 +86,8 @@ label-none s at n u o few h k = record {
         ∙ length-append (take at s) (f .0 ∷ f .1) in
         omega (arith, e, ap length (take-all at s h))
 
--- ---- one answer for another that is the same
-module _ (n : ℕ) (s : List ℕ) (r : Got) where
-  pub bad-again : (c d : Cursor) (i j : ℕ) (o q : Bool) (t t₁ u u₁ : List ℕ) (p : ℕ)
-      → r ≡ got.Bad p → GotIs n s c i o t t₁ r → GotIs n s d j q u u₁ r
-  bad-again c d i j o q t t₁ u u₁ p e g = subst (GotIs n s d j q u u₁) (sym e)
-      (subst (GotIs n s c i o t t₁) e g)
-
-  pub bad-is : (c : Cursor) (i : ℕ) (o : Bool) (t t₁ : List ℕ) (p : ℕ)
-      → r ≡ got.Bad p → GotIs n s c i o t t₁ r → NoTree n s p
-  bad-is c i o t t₁ p e g = subst (GotIs n s c i o t t₁) e g
-
-  pub read-is : (z c d : Cursor) (i v : ℕ) (o : Bool) (t t₁ : List ℕ) → z ≡ c
-      → r ≡ got.Node d v → GotIs n s z i o t t₁ r → Read n s c i o t t₁ d v
-  read-is z c d i v o t t₁ q e g = subst
-      (λ (y : Cursor). Read n s y i o t t₁ d v) q
-      (subst (GotIs n s z i o t t₁) e g)
-
--- a cursor for another that is the same
-pub ready-at : (n : ℕ) (s t : List ℕ) (z c : Cursor) (m : ℕ) (o : Bool) → z ≡ c
-    → Ready n s t c m o → Ready n s t z m o
-ready-at n s t z c m o e r = subst (λ (y : Cursor). Ready n s t y m o) (sym e) r
-
 -- ---- a member
-module _ (n : ℕ) (s t : List ℕ) (c : Cursor) (m : ℕ) (o : Bool) (R : Ready n s t c m o) where
+module _ {n : ℕ} {s t : List ℕ} {c : Cursor} {m : ℕ} {o : Bool} (R : Ready n s t c m o) where
   -- a label
   pub got-taxon : here s (c .at) opens ≡ false → (r : Got) → TakenIs n s c o r
       → GotIs n s c m o t t r
@@ -158,17 +99,16 @@ module _ (n : ℕ) (s t : List ℕ) (c : Cursor) (m : ℕ) (o : Bool) (R : Ready
           (sym (ap₂ _&&_ (lt-ltb (c .at) (length s) h) (eq-eqb (getD s (c .at) 0) opens q)) ∙ e)
 
       go : (b : Bool) → ltb (c .at) (length s) ≡ b → NoTree n s p
-      go true l = let h = ltb-true (c .at) (length s) l in bad-label n
-          (R .few) s (c .at) (c .used) m o (R .slot) h (not-open h) p M
+      go true l = let h = ltb-true (c .at) (length s) l in bad-label
+          (R .few) (R .slot) h (not-open h) M
       go false l =
           let h = ltb-false (c .at) (length s) l in
           let q : c .at ≡ p = omega (arith, h, M .after, M .inside) in
           subst (NoTree n s) q
-          (no-more n (R .few) s (c .at) (c .used) m o (R .slot) h)
+          (no-more (R .few) (R .slot) h)
   got-taxon e (got.Node d v) T = record {
     member = taxon v;
-    past = past-taxon n (R .few) s (c .at) (c .used) m o (R .slot) v (d .at)
-        (T .found);
+    past = past-taxon (R .few) (R .slot) (T .found);
     next = omega (arith, T .next);
     used = T .used;
     named = refl;
@@ -176,11 +116,11 @@ module _ (n : ℕ) (s t : List ℕ) (c : Cursor) (m : ℕ) (o : Bool) (R : Ready
   }
 
   count-is : size most (c .used) ≡ size n (c .used)
-  count-is = size-is n (c .used) (R .few) (R .slot .within)
+  count-is = size-is (c .used) (R .few) (R .slot .within)
 
   module _ (h₀ : here s (c .at) opens ≡ true) where
     pub group-bad : n < size most (c .used) + m + 2 → NoTree n s (c .at)
-    group-bad k = too-deep n (R .few) s (c .at) (c .used) m o (R .slot)
+    group-bad k = too-deep (R .few) (R .slot)
         (here-in s (c .at) opens h₀) (here-is s (c .at) opens h₀)
         (omega (arith, k, count-is))
 
@@ -194,112 +134,142 @@ module _ (n : ℕ) (s t : List ℕ) (c : Cursor) (m : ℕ) (o : Bool) (R : Ready
         few = R .few;
         slot = subst (λ (i : ℕ). Slot n s (c .at + 1) (c .used) i true)
             (sym (add-one m))
-            (left-slot n (R .few) s (c .at) (c .used) m o (R .slot) h₀ room);
+            (left-slot (R .few) (R .slot) h₀ room);
         from = R .from;
         numbers = omega (arith, R .numbers);
         len = R .len;
       }
 
-      module _ (t₁ : List ℕ) (d : Cursor) (x : ℕ)
-          (L : Read n s (ahead c) (m + 1) true t t₁ d x) where
-        past-left : Past n s (c .at + 1) (c .used) (suc m) true (L .member) (d .at)
-        past-left = subst
-            (λ (i : ℕ). Past n s (c .at + 1) (c .used) i true (L .member) (d .at))
-            (add-one m) (L .past)
+-- a group begins at c, and its first member is read up to d
+pub record LeftRead (n : ℕ) (s t : List ℕ) (c : Cursor) (m : ℕ) (o : Bool) (t₁ : List ℕ)
+    (d : Cursor) (x : ℕ) : Type 0 where
+  pub ready : Ready n s t c m o
+  pub opened : here s (c .at) opens ≡ true
+  pub left : Read n s (ahead c) (m + 1) true t t₁ d x
 
-        pub comma-bad : here s (d .at) comma ≡ false → NoTree n s (d .at)
-        comma-bad e = no-comma n (R .few) s (c .at) (c .used) m o (R .slot) h₀
-            (L .member) (d .at) past-left e
+-- a comma follows, and its second member is read up to f
+pub record BothRead (n : ℕ) (s t : List ℕ) (c : Cursor) (m : ℕ) (o : Bool) (t₂ : List ℕ)
+    (f : Cursor) (x y : ℕ) : Type 0 where
+  pub table : List ℕ
+  pub between : Cursor
+  pub half : LeftRead n s t c m o table between x
+  pub parted : here s (between .at) comma ≡ true
+  pub right : Read n s (ahead between) m o table t₂ f y
 
-        left-size : size n (d .used) ≡ size n (c .used) + suc (groups (L .member))
-        left-size = ap (size n) (L .used)
-            ∙ mark-size n (c .used) (suc m) true (L .member) (past-left .fits)
+module _ {n : ℕ} {s t : List ℕ} {c : Cursor} {m : ℕ} {o : Bool} {t₁ : List ℕ} {d : Cursor} {x : ℕ}
+    (H : LeftRead n s t c m o t₁ d x) where
+  past-left : Past n s (c .at + 1) (c .used) (suc m) true (H .left .member) (d .at)
+  past-left = subst
+      (λ (i : ℕ). Past n s (c .at + 1) (c .used) i true (H .left .member) (d .at))
+      (add-one m) (H .left .past)
 
-        module _ (k : here s (d .at) comma ≡ true) where
-          pub right-ready : Ready n s t₁ (ahead d) m o
-          right-ready = record {
-            big = R .big;
-            few = R .few;
-            slot = subst (λ (u : ℕ). Slot n s (d .at + 1) u m o) (sym (L .used))
-                (right-slot n (R .few) s (c .at) (c .used) m o (R .slot) h₀ (L .member) (d .at)
-                past-left k);
-            from = omega (arith, R .from, L .next);
-            numbers = omega (arith, R .numbers, L .next, left-size);
-            len = ap length (L .written) ∙ length-rows (L .member) (c .next) t
-                ∙ R .len;
-          }
+  pub comma-bad : here s (d .at) comma ≡ false → NoTree n s (d .at)
+  comma-bad e = no-comma (H .ready .few) (H .ready .slot) (H .opened) past-left e
 
-          module _ (t₂ : List ℕ) (f : Cursor) (y : ℕ) (Q : Read n s (ahead d) m o t₁ t₂ f y) where
-            past-right : Past n s (d .at + 1) (mark (L .member) (c .used)) m o (Q .member) (f .at)
-            past-right = subst
-                (λ (u : ℕ). Past n s (d .at + 1) u m o (Q .member) (f .at))
-                (L .used) (Q .past)
+  left-size : size n (d .used) ≡ size n (c .used) + suc (groups (H .left .member))
+  left-size = ap (size n) (H .left .used) ∙ mark-size (past-left .fits)
 
-            -- the parent has the number of a node, and its members' are below
-            parent-node : f .next ≤ rows n
-            parent-node = omega
-                (arith, R .numbers, L .next, Q .next, left-size, Q .past .fits .room, R .big)
+  pub right-ready : here s (d .at) comma ≡ true → Ready n s t₁ (ahead d) m o
+  right-ready k =
+      let R = H .ready in
+      let L = H .left in
+      record {
+        big = R .big;
+        few = R .few;
+        slot = subst (λ (u : ℕ). Slot n s (d .at + 1) u m o) (sym (L .used))
+            (right-slot (R .few) (R .slot) (H .opened) past-left k);
+        from = omega (arith, R .from, L .next);
+        numbers = omega (arith, R .numbers, L .next, left-size);
+        len = ap length (L .written) ∙ length-rows (L .member) (c .next) t ∙ R .len;
+      }
 
-            left-node : x < f .next
-            left-node = omega (
-              arith,
-              L .named,
-              L .next,
-              Q .next,
-              node-lt n (L .member) (c .next)
-                  (below-n n (c .used) (suc m) true (L .member) (past-left .fits)) (R .from),
-            )
+module _ {n : ℕ} {s t : List ℕ} {c : Cursor} {m : ℕ} {o : Bool} {t₂ : List ℕ} {f : Cursor}
+    {x y : ℕ} (B : BothRead n s t c m o t₂ f x y) where
+  abbrev R : Ready n s t c m o
+  R = B .half .ready
 
-            right-node : y < f .next
-            right-node = omega (
-              arith,
-              Q .named,
-              Q .next,
-              node-lt n (Q .member) (d .next)
-                  (below-n n (d .used) m o (Q .member) (Q .past .fits))
-                  (omega (arith, R .from, L .next)),
-            )
+  abbrev L : Read n s (ahead c) (m + 1) true t (B .table) (B .between) x
+  L = B .half .left
 
-            length-right : length t₂ ≡ 2 * rows n
-            length-right = ap length (Q .written)
-                ∙ length-rows (Q .member) (d .next) t₁ ∙ right-ready .len
+  abbrev Q : Read n s (ahead (B .between)) m o (B .table) t₂ f y
+  Q = B .right
 
-            pub to-close : Closes s t₂ f x y
-            to-close = record {
-              inside = Q .past .inside;
-              first = omega (arith, left-node, parent-node, length-right);
-              second = omega (arith, right-node, parent-node, length-right);
-              small = (
-                omega (arith, left-node, parent-node, R .few),
-                omega (arith, right-node, parent-node, R .few),
-                omega (arith, parent-node, R .few),
-              );
-            }
+  past-right : Past n s (B .between .at + 1) (mark (L .member) (c .used)) m o (Q .member) (f .at)
+  past-right = subst
+      (λ (u : ℕ). Past n s (B .between .at + 1) u m o (Q .member) (f .at))
+      (L .used) (Q .past)
 
-            pub got-group : (t₃ : List ℕ) (r : Got) → ClosedIs s f x y t₂ t₃ r
-                → GotIs n s c m o t t₃ r
-            unfolding withRows node groups mark
-            got-group t₃ (got.Bad p) (e, h) = subst (NoTree n s) (sym e)
-                (no-close n (R .few) s (c .at) (c .used) m o (R .slot) h₀ (L .member) (d .at)
-                past-left k (Q .member) (f .at) past-right h)
-            got-group t₃ (got.Node g v) C = record {
-              member = group (L .member) (Q .member);
-              past = subst
-                  (Past n s (c .at) (c .used) m o (group (L .member) (Q .member)))
-                  (sym (ap (λ (z : Cursor). z .at) (C .after)))
-                  (past-group n (R .few) s (c .at) (c .used) m o (R .slot) h₀ (L .member) (d .at)
-                  past-left k (Q .member) (f .at) past-right (C .closed));
-              next = ap (λ (z : Cursor). z .next) (C .after)
-                  ∙ omega (arith, L .next, Q .next);
-              used = ap (λ (z : Cursor). z .used) (C .after) ∙ Q .used
-                  ∙ ap (mark (Q .member)) (L .used);
-              named = C .named ∙ omega (arith, L .next, Q .next);
-              written = C .written ∙ joined;
-            }
-              where
-                joined : join y (f .next) (join x (f .next) t₂)
-                    ≡ withRows (group (L .member) (Q .member)) (c .next) t
-                joined =
-                    let p : f .next ≡ c .next + groups (L .member) + groups (Q .member) = Q .next
-                    ∙ ap (λ (i : ℕ). i + groups (Q .member)) (L .next) in
-                    rw (p, Q .named, L .named, Q .written, L .written, L .next)
+  -- the parent has the number of a node, and its members' are below
+  parent-node : f .next ≤ rows n
+  parent-node = omega (
+    arith,
+    R .numbers,
+    L .next,
+    Q .next,
+    left-size (B .half),
+    Q .past .fits .room,
+    R .big,
+  )
+
+  left-node : x < f .next
+  left-node = omega (
+    arith,
+    L .named,
+    L .next,
+    Q .next,
+    node-lt n (L .member) (c .next) (below-n (past-left (B .half) .fits)) (R .from),
+  )
+
+  right-node : y < f .next
+  right-node = omega (
+    arith,
+    Q .named,
+    Q .next,
+    node-lt n (Q .member) (B .between .next) (below-n (Q .past .fits))
+        (omega (arith, R .from, L .next)),
+  )
+
+  length-right : length t₂ ≡ 2 * rows n
+  length-right = ap length (Q .written)
+      ∙ length-rows (Q .member) (B .between .next) (B .table)
+      ∙ right-ready (B .half) (B .parted) .len
+
+  pub to-close : Closes s t₂ f x y
+  to-close = record {
+    inside = Q .past .inside;
+    first = omega (arith, left-node, parent-node, length-right);
+    second = omega (arith, right-node, parent-node, length-right);
+    small = (
+      omega (arith, left-node, parent-node, R .few),
+      omega (arith, right-node, parent-node, R .few),
+      omega (arith, parent-node, R .few),
+    );
+  }
+
+  pub got-group : (t₃ : List ℕ) (r : Got) → ClosedIs s f x y t₂ t₃ r → GotIs n s c m o t t₃ r
+  unfolding withRows node groups mark
+  got-group t₃ (got.Bad p) (e, h) = subst (NoTree n s) (sym e)
+      (no-close (R .few) (R .slot) (B .half .opened) (past-left (B .half)) (B .parted) past-right h)
+  got-group t₃ (got.Node g v) C = record {
+    member = group (L .member) (Q .member);
+    past = subst
+        (Past n s (c .at) (c .used) m o (group (L .member) (Q .member)))
+        (sym (ap (λ (z : Cursor). z .at) (C .after)))
+        (past-group (R .few) (R .slot) (B .half .opened) (past-left (B .half)) (B .parted)
+        past-right (C .closed));
+    next = ap (λ (z : Cursor). z .next) (C .after)
+        ∙ omega (arith, L .next, Q .next);
+    used = ap (λ (z : Cursor). z .used) (C .after) ∙ Q .used
+        ∙ ap (mark (Q .member)) (L .used);
+    named = C .named ∙ omega (arith, L .next, Q .next);
+    written = C .written ∙ joined;
+  }
+    where
+      joined : join y (f .next) (join x (f .next) t₂)
+          ≡ withRows (group (B .half .left .member) (B .right .member)) (c .next) t
+      joined =
+          let l = B .half .left in
+          let r = B .right in
+          let p : f .next ≡ c .next + groups (l .member) + groups (r .member) = r .next
+          ∙ ap (λ (i : ℕ). i + groups (r .member)) (l .next) in
+          rw (p, r .named, l .named, r .written, l .written, l .next)

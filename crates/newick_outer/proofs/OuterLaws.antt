@@ -30,25 +30,25 @@ use Rattle.newick_members.proofs.Places.{Agrees, byte, ended, as-tree, stuck, e
 use Rattle.newick_members.proofs.Places.{here-step, over-agrees}
 
 -- ---- which members a tree has
-module _ (n : ℕ) (a b : Member) where
+module _ {n : ℕ} {a b : Member} where
   two-fits : EachOnce n (two a b) → Fits n 0 0 false (group a b)
   unfolding timesIn times
-  two-fits h = each-fits n (group a b) h
+  two-fits h = each-fits h
 
   fits-two : Fits n 0 0 false (group a b) → EachOnce n (two a b)
   unfolding timesIn times
-  fits-two f = fits-each n (group a b) f
+  fits-two f = fits-each f
 
-  module _ (c : Member) where
+  module _ {c : Member} where
     three-fits : EachOnce n (three a b c)
         → Fits n 0 0 false (group (group a b) c)
     unfolding timesIn times
-    three-fits h = each-fits n (group (group a b) c) h
+    three-fits h = each-fits h
 
     fits-three : Fits n 0 0 false (group (group a b) c)
         → EachOnce n (three a b c)
     unfolding timesIn times
-    fits-three f = fits-each n (group (group a b) c) f
+    fits-three f = fits-each f
 
 -- what follows the first member, and what follows the second
 pub data AfterFirst (n : ℕ) (a : Member) (x : List ℕ) : Type 0 where
@@ -65,44 +65,40 @@ pub data AfterSecond (n : ℕ) (a b : Member) (x : List ℕ) : Type 0 where
       → x ≡ comma ∷ text c (closes ∷ semicolon ∷ []) → AfterSecond n a b x
 
 -- the first member fits its slot, and the second its own
-first-fits : (n : ℕ) (a : Member) (x : List ℕ) → AfterFirst n a x
+first-fits : {n : ℕ} {a : Member} {x : List ℕ} → AfterFirst n a x
     → Fits n 0 1 true a
-first-fits n a x (of-two b h e) = fits-left n 0 0 false a b (two-fits n a b h)
-first-fits n a x (of-three b c h e) =
-    fits-loose n 0 2 1 true a (omega arith)
-    (fits-left n 0 1 true a b (fits-left n 0 0 false (group a b) c (three-fits n a b c h)))
+first-fits (of-two b h e) = fits-left (two-fits h)
+first-fits (of-three b c h e) =
+    fits-loose (omega arith) (fits-left (fits-left (three-fits h)))
 
-second-fits : (n : ℕ) (a b : Member) (x : List ℕ) → AfterSecond n a b x
+second-fits : {n : ℕ} {a b : Member} {x : List ℕ} → AfterSecond n a b x
     → Fits n (mark a 0) 0 true b
-second-fits n a b x (of-two h e) = fits-loose n (mark a 0) 0 0 false b
-    (omega arith) (fits-right n 0 0 false a b (two-fits n a b h))
-second-fits n a b x (of-three c h e) =
-    fits-loose n (mark a 0) 1 0 true b (omega arith)
-    (fits-right n 0 1 true a b (fits-left n 0 0 false (group a b) c (three-fits n a b c h)))
+second-fits (of-two h e) = fits-loose (omega arith) (fits-right (two-fits h))
+second-fits (of-three c h e) =
+    fits-loose (omega arith) (fits-right (fits-left (three-fits h)))
 
 third-fits : (n : ℕ) (a b c : Member) → EachOnce n (three a b c)
     → Fits n (mark b (mark a 0)) 0 false c
 unfolding mark
-third-fits n a b c h = fits-right n 0 0 false (group a b) c
-    (three-fits n a b c h)
+third-fits n a b c h = fits-right (three-fits h)
 
 -- each begins with no digit
-first-stop : (n : ℕ) (a : Member) (x : List ℕ) → AfterFirst n a x → Stop x
-first-stop n a x (of-two b h e) = rw e (stop-at comma _ refl)
-first-stop n a x (of-three b c h e) = rw e (stop-at comma _ refl)
+first-stop : {n : ℕ} {a : Member} {x : List ℕ} → AfterFirst n a x → Stop x
+first-stop (of-two b h e) = rw e (stop-at comma _ refl)
+first-stop (of-three b c h e) = rw e (stop-at comma _ refl)
 
-second-stop : (n : ℕ) (a b : Member) (x : List ℕ) → AfterSecond n a b x → Stop x
-second-stop n a b x (of-two h e) = rw e (stop-at closes _ refl)
-second-stop n a b x (of-three c h e) = rw e (stop-at comma _ refl)
+second-stop : {n : ℕ} {a b : Member} {x : List ℕ} → AfterSecond n a b x → Stop x
+second-stop (of-two h e) = rw e (stop-at closes _ refl)
+second-stop (of-three c h e) = rw e (stop-at comma _ refl)
 
-module _ (n : ℕ) (few : n ≤ most) (s : List ℕ) where
+module _ {n : ℕ} (few : n ≤ most) (s : List ℕ) where
   -- ---- the first byte
   pub no-open : 4 ≤ n → here s 0 opens ≡ false → NoTree n s 0
   unfolding whole groups
   no-open big e =
       let f = fill n 0 0 false (λ x. omega (arith, ap tally (has-none x)))
       (omega (arith, size-none n, big)) (λ q. refl) in
-      expect n s 0 (omega arith) opens (some (f .0) (f .1))
+      expect (omega arith) opens (some (f .0) (f .1))
       (λ x a t. begins x (t .0) (t .1 .is)) e
     where
       begins : (x : List ℕ) (o : Outermost) → x ≡ whole o
@@ -118,7 +114,7 @@ module _ (n : ℕ) (few : n ≤ most) (s : List ℕ) where
           one q = omega (arith, q, size-none n, big)
       some (group a b) f = (
         whole (two a b),
-        (two a b, record { each = fits-two n a b f; is = refl }),
+        (two a b, record { each = fits-two f; is = refl }),
       )
 
   -- ---- the first member
@@ -126,14 +122,14 @@ module _ (n : ℕ) (few : n ≤ most) (s : List ℕ) where
     to-two : (a b : Member) → Fits n 0 0 false (group a b)
         → IsTree n (take 1 s ++ text a (comma ∷ text b (closes ∷ semicolon ∷ [])))
     unfolding whole
-    to-two a b f = (two a b, record { each = fits-two n a b f; is = here-step s 0 opens h _ })
+    to-two a b f = (two a b, record { each = fits-two f; is = here-step s 0 opens h _ })
 
     to-three : (a b c : Member) → Fits n 0 0 false (group (group a b) c)
         → IsTree n (take 1 s ++ text a (comma ∷ text b (comma ∷ text c (closes ∷ semicolon ∷ []))))
     unfolding whole
     to-three a b c f = (
       three a b c,
-      record { each = fits-three n a b c f; is = here-step s 0 opens h _ },
+      record { each = fits-three f; is = here-step s 0 opens h _ },
     )
 
     opened : (x : List ℕ) → IsTree n (take 1 s ++ x)
@@ -166,14 +162,14 @@ module _ (n : ℕ) (few : n ≤ most) (s : List ℕ) where
         member = q .0;
         rest = q .1;
         next = first-next (q .0) (q .1) (q .3);
-        fits = first-fits n (q .0) (q .1) (q .3);
+        fits = first-fits (q .3);
         is = q .2;
       };
       fills = λ a f.
-          let g = fill n (mark a 0) 0 false (mark-within n 0 1 true a f)
-          (omega (arith, mark-size n 0 1 true a f, f .room)) (λ e. refl) in (
+          let g = fill n (mark a 0) 0 false (mark-within f)
+          (omega (arith, mark-size f, f .room)) (λ e. refl) in (
             comma ∷ text (g .0) (closes ∷ semicolon ∷ []),
-            to-two a (g .0) (fits-group n 0 0 false a (g .0) f (g .1)),
+            to-two a (g .0) (fits-group f (g .1)),
           );
     }
       where
@@ -181,29 +177,27 @@ module _ (n : ℕ) (few : n ≤ most) (s : List ℕ) where
         first-next a w (of-two b k e) = rw e (next-at comma _ refl)
         first-next a w (of-three b c k e) = rw e (next-at comma _ refl)
 
-    module _ (a : Member) (p : ℕ) (A : Past n s 1 0 1 true a p) where
+    module _ {a : Member} {p : ℕ} (A : Past n s 1 0 1 true a p) where
       after-first : (x : List ℕ) → Over a x → IsTree n (take p s ++ x)
           → AfterFirst n a x
       after-first x v t =
           let q = opened (text a x) (as-tree n (A .is x) t) in
-          let e = settled a (q .0) x (q .1) (below n 0 1 true a few (A .fits))
-          (below n 0 1 true (q .0) few (first-fits n (q .0) (q .1) (q .3))) v
-          (first-stop n (q .0) (q .1) (q .3)) (q .2) in
+          let e = settled a (q .0) x (q .1) (below few (A .fits))
+          (below few (first-fits (q .3))) v (first-stop (q .3)) (q .2) in
           subst (λ (y : List ℕ). AfterFirst n a y) (sym (e .1))
           (subst (λ (m : Member). AfterFirst n m (q .1)) (sym (e .0)) (q .3))
 
       -- after the first member a comma follows
       pub no-first-comma : here s p comma ≡ false → NoTree n s p
       no-first-comma e =
-          let g = fill n (mark a 0) 0 false (mark-within n 0 1 true a (A .fits))
-          (omega (arith, mark-size n 0 1 true a (A .fits), A .fits .room))
-          (λ z. refl) in
-          expect n s p (A .inside) comma (
+          let g = fill n (mark a 0) 0 false (mark-within (A .fits))
+          (omega (arith, mark-size (A .fits), A .fits .room)) (λ z. refl) in
+          expect (A .inside) comma (
             comma ∷ text (g .0) (closes ∷ semicolon ∷ []),
             as-tree n (sym (A .is _))
-                (to-two a (g .0) (fits-group n 0 0 false a (g .0) (A .fits) (g .1))),
+                (to-two a (g .0) (fits-group (A .fits) (g .1))),
           )
-          (λ x c t. comma-first x (after-first x (over-agrees a s p x (A .over) c) t)) e
+          (λ x c t. comma-first x (after-first x (over-agrees a (A .over) c) t)) e
         where
           comma-first : (x : List ℕ) → AfterFirst n a x
               → (y : List ℕ) × (x ≡ comma ∷ y)
@@ -237,31 +231,27 @@ module _ (n : ℕ) (few : n ≤ most) (s : List ℕ) where
             → IsTree n (take (p + 1) s ++ text b (closes ∷ semicolon ∷ []))
         with-two b f = as-tree n
             (sym (passed (text b (closes ∷ semicolon ∷ []))))
-            (to-two a b (fits-group n 0 0 false a b (A .fits) f))
+            (to-two a b (fits-group (A .fits) f))
 
         all-three : (b d : Member) → Fits n (mark a 0) 0 true b
             → Fits n (mark b (mark a 0)) 0 false d
             → Fits n 0 0 false (group (group a b) d)
         unfolding mark
         all-three b d f g =
-            let S = mark-size n (mark a 0) 0 true b f in
+            let S = mark-size f in
             let f1 : Fits n (mark a 0) 1 true b =
             record {
               once = f .once;
               room = omega (arith, S, g .room);
-              full = λ e. absurd
-                  (true≢false e);
+              full = λ e. absurd (true≢false e);
             } in
             let a2 : Fits n 0 2 true a =
             record {
               once = A .fits .once;
-              room =
-                  omega (arith, mark-size n 0 1 true a (A .fits), f1 .room);
-              full =
-                  λ e. absurd (true≢false e);
+              room = omega (arith, mark-size (A .fits), f1 .room);
+              full = λ e. absurd (true≢false e);
             } in
-            fits-group n 0 0 false (group a b) d
-            (fits-group n 0 1 true a b a2 f1) g
+            fits-group (fits-group a2 f1) g
 
         with-three : (b d : Member) → Fits n (mark a 0) 0 true b
             → Fits n (mark b (mark a 0)) 0 false d
@@ -276,7 +266,7 @@ module _ (n : ℕ) (few : n ≤ most) (s : List ℕ) where
         last-fits b f e = record {
           once = f .once;
           room = f .room;
-          full = λ z. sym (mark-size n (mark a 0) 0 true b f) ∙ e;
+          full = λ z. sym (mark-size f) ∙ e;
         }
 
         goes-three : (b : Member) → Fits n (mark a 0) 0 true b
@@ -285,21 +275,21 @@ module _ (n : ℕ) (few : n ≤ most) (s : List ℕ) where
             (take (p + 1) s ++ text b (comma ∷ text d (closes ∷ semicolon ∷ [])))
         goes-three b f h =
             let g = fill n (mark b (mark a 0)) 0 false
-            (mark-within n (mark a 0) 0 true b f) (omega (arith, h))
+            (mark-within f) (omega (arith, h))
             (λ z. refl) in
             (g .0, with-three b (g .0) f (g .1))
 
         pub second-slot : Slot n s (p + 1) (mark a 0) 0 true
         second-slot = record {
           inside = omega (arith, here-in s p comma c);
-          within = mark-within n 0 1 true a (A .fits);
-          room = omega (arith, mark-size n 0 1 true a (A .fits), A .fits .room);
+          within = mark-within (A .fits);
+          room = omega (arith, mark-size (A .fits), A .fits .room);
           last = λ e. absurd (true≢false e);
           settles = λ x t. let q = between x t in record {
             member = q .0;
             rest = q .1;
             next = second-next (q .0) (q .1) (q .3);
-            fits = second-fits n a (q .0) (q .1) (q .3);
+            fits = second-fits (q .3);
             is = q .2;
           };
           fills = λ b f. on b f (eqb (size n (mark b (mark a 0))) n) refl;
@@ -316,27 +306,25 @@ module _ (n : ℕ) (few : n ≤ most) (s : List ℕ) where
             on b f true e = (closes ∷ semicolon ∷ [], with-two b (last-fits b f (eqb-true _ n e)))
             on b f false e =
                 let most : size n (mark b (mark a 0)) ≤ n = omega
-                (arith, mark-size n (mark a 0) 0 true b f, f .room) in
+                (arith, mark-size f, f .room) in
                 let g = goes-three b f (lt-of-le-ne most (eqb-false _ n e)) in
                 (comma ∷ text (g .0) (closes ∷ semicolon ∷ []), g .1)
 
-        module _ (b : Member) (q : ℕ) (B : Past n s (p + 1) (mark a 0) 0 true b q) where
+        module _ {b : Member} {q : ℕ} (B : Past n s (p + 1) (mark a 0) 0 true b q) where
           after-second : (x : List ℕ) → Over b x → IsTree n (take q s ++ x)
               → AfterSecond n a b x
           after-second x v t =
               let r = between (text b x) (as-tree n (B .is x) t) in
-              let e = settled b (r .0) x (r .1)
-              (below n (mark a 0) 0 true b few (B .fits))
-              (below n (mark a 0) 0 true (r .0) few (second-fits n a (r .0) (r .1) (r .3))) v
-              (second-stop n a (r .0) (r .1) (r .3)) (r .2) in
+              let e = settled b (r .0) x (r .1) (below few (B .fits))
+              (below few (second-fits (r .3))) v (second-stop (r .3)) (r .2) in
               subst (λ (y : List ℕ). AfterSecond n a b y) (sym (e .1))
               (subst (λ (m : Member). AfterSecond n a m (r .1)) (sym (e .0)) (r .3))
 
           sizes : size n (mark b (mark a 0)) ≡ groups a + groups b + 2
           sizes = omega (
             arith,
-            mark-size n (mark a 0) 0 true b (B .fits),
-            mark-size n 0 1 true a (A .fits),
+            mark-size (B .fits),
+            mark-size (A .fits),
             size-none n,
           )
 
@@ -350,14 +338,14 @@ module _ (n : ℕ) (few : n ≤ most) (s : List ℕ) where
 
             pub no-two-close : here s q closes ≡ false → NoTree n s q
             no-two-close e =
-                expect n s q (B .inside) closes (
+                expect (B .inside) closes (
                   closes ∷ semicolon ∷ [],
                   as-tree n (sym (B .is (closes ∷ semicolon ∷ [])))
                       (with-two b (last-fits b (B .fits) none)),
                 )
                 (λ x z t. (
                   semicolon ∷ [],
-                  ends-two x (after-second x (over-agrees b s q x (B .over) z) t),
+                  ends-two x (after-second x (over-agrees b (B .over) z) t),
                 )) e
 
             pub two-closing : here s q closes ≡ true
@@ -365,8 +353,7 @@ module _ (n : ℕ) (few : n ≤ most) (s : List ℕ) where
             unfolding whole
             two-closing e = record {
               inside = omega (arith, here-in s q closes e);
-              each = fits-two n a b
-                  (fits-group n 0 0 false a b (A .fits) (last-fits b (B .fits) none));
+              each = fits-two (fits-group (A .fits) (last-fits b (B .fits) none));
               is = here-step s q closes e (semicolon ∷ [])
                   ∙ B .is (closes ∷ semicolon ∷ [])
                   ∙ passed (text b (closes ∷ semicolon ∷ []))
@@ -389,10 +376,10 @@ module _ (n : ℕ) (few : n ≤ most) (s : List ℕ) where
             pub no-second-comma : here s q comma ≡ false → NoTree n s q
             no-second-comma e =
                 let g = goes-three b (B .fits) some in
-                expect n s q (B .inside) comma
+                expect (B .inside) comma
                 (comma ∷ text (g .0) (closes ∷ semicolon ∷ []), as-tree n (sym (B .is _)) (g .1))
                 (λ x z t. let r = ends-three x
-                (after-second x (over-agrees b s q x (B .over) z) t) in
+                (after-second x (over-agrees b (B .over) z) t) in
                 (text (r .0) (closes ∷ semicolon ∷ []), r .2)) e
 
             -- ---- the third member
@@ -413,7 +400,7 @@ module _ (n : ℕ) (few : n ≤ most) (s : List ℕ) where
               pub third-slot : Slot n s (q + 1) (mark b (mark a 0)) 0 false
               third-slot = record {
                 inside = omega (arith, here-in s q comma k);
-                within = mark-within n (mark a 0) 0 true b (B .fits);
+                within = mark-within (B .fits);
                 room = omega (arith, some);
                 last = λ e. refl;
                 settles = λ x t. let r = thence x t in record {
@@ -426,30 +413,27 @@ module _ (n : ℕ) (few : n ≤ most) (s : List ℕ) where
                 fills = λ d f. (closes ∷ semicolon ∷ [], by-three d f);
               }
 
-              module _ (d : Member) (r : ℕ)
+              module _ {d : Member} {r : ℕ}
                   (D : Past n s (q + 1) (mark b (mark a 0)) 0 false d r) where
                 ends-here : (x : List ℕ) → Over d x → IsTree n (take r s ++ x)
                     → x ≡ closes ∷ semicolon ∷ []
                 ends-here x v t =
                     let f = thence (text d x) (as-tree n (D .is x) t) in
-                    settled d (f .0) x (closes ∷ semicolon ∷ [])
-                    (below n (mark b (mark a 0)) 0 false d few (D .fits))
-                    (below n (mark b (mark a 0)) 0 false (f .0) few
-                    (third-fits n a b (f .0) (f .1))) v
-                    (stop-at closes _ refl) (f .2) .1
+                    settled d (f .0) x (closes ∷ semicolon ∷ []) (below few (D .fits))
+                    (below few (third-fits n a b (f .0) (f .1))) v (stop-at closes _ refl) (f .2) .1
 
                 pub no-three-close : here s r closes ≡ false → NoTree n s r
                 no-three-close e =
-                    expect n s r (D .inside) closes
+                    expect (D .inside) closes
                     (closes ∷ semicolon ∷ [], as-tree n (sym (D .is _)) (by-three d (D .fits)))
-                    (λ x z t. (semicolon ∷ [], ends-here x (over-agrees d s r x (D .over) z) t)) e
+                    (λ x z t. (semicolon ∷ [], ends-here x (over-agrees d (D .over) z) t)) e
 
                 pub three-closing : here s r closes ≡ true
                     → Closing n s (r + 1) (three a b d)
                 unfolding whole
                 three-closing e = record {
                   inside = omega (arith, here-in s r closes e);
-                  each = fits-three n a b d (all-three b d (B .fits) (D .fits));
+                  each = fits-three (all-three b d (B .fits) (D .fits));
                   is = here-step s r closes e (semicolon ∷ [])
                       ∙ D .is (closes ∷ semicolon ∷ [])
                       ∙ here-step s q comma k _ ∙ B .is _ ∙ passed _
@@ -460,10 +444,10 @@ module _ (n : ℕ) (few : n ≤ most) (s : List ℕ) where
                 }
 
 -- ---- the semicolon and the end
-module _ (n : ℕ) (s : List ℕ) (p : ℕ) (o : Outermost) (C : Closing n s p o) where
+module _ {n : ℕ} {s : List ℕ} {p : ℕ} {o : Outermost} (C : Closing n s p o) where
   pub no-semicolon : here s p semicolon ≡ false → NoTree n s p
   no-semicolon e =
-      expect n s p (C .inside) semicolon (
+      expect (C .inside) semicolon (
         semicolon ∷ [],
         (o, record { each = C .each; is = C .is }),
       )
@@ -472,7 +456,7 @@ module _ (n : ℕ) (s : List ℕ) (p : ℕ) (o : Outermost) (C : Closing n s p o
   module _ (e : here s p semicolon ≡ true) where
     -- any byte after the semicolon is one too many
     pub more-after : p + 1 < length s → NoTree n s (p + 1)
-    more-after h = stuck n s (p + 1) (omega (arith, h))
+    more-after h = stuck (omega (arith, h))
         ([], (o, record { each = C .each; is = here-step s p semicolon e [] ∙ C .is })) dead
       where
         dead : (x : List ℕ) → Agrees s (p + 1) x

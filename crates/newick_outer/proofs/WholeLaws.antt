@@ -13,7 +13,7 @@ use Rattle.taxa.specs.Most.{most}
 use Rattle.taxa.specs.Sets.{size}
 use Rattle.taxa.proofs.Sizes.{size-none, size-le}
 use Rattle.tree.specs.Tree.{rows}
-use Rattle.newick_grammar.specs.Newick.{Outermost, two, three, NoTree, opens, comma, closes}
+use Rattle.newick_grammar.specs.Newick.{Outermost, NoTree, opens, comma, closes}
 use Rattle.newick_grammar.specs.Numbers.{groups, node, join, withRows, blank, smaller, larger}
 use Rattle.newick_grammar.specs.Numbers.{table}
 use Rattle.newick_grammar.proofs.Writes.{length-join, blank-length}
@@ -31,48 +31,45 @@ use Rattle.newick_outer.proofs.OuterLaws.{no-semicolon, more-after, who
 use Rattle.newick_members.proofs.StageLaws.{size-is}
 
 -- ---- the end of the text
-end-parsed : (n : ℕ) (s : List ℕ) (p : ℕ) (o : Outermost) → Closing n s p o
-    → (t : List ℕ) → t ≡ table n o → (r : Parsed) → EndIs s p r
-    → ParsedIs n s t r
-end-parsed n s p o C t e parsed.Whole (h, l) = (o, whole-text n s p o C h l, e)
-end-parsed n s p o C t e (parsed.Bad q) (inl (i, h)) = subst (NoTree n s)
-    (sym i) (no-semicolon n s p o C h)
-end-parsed n s p o C t e (parsed.Bad q) (inr (i, h, l)) = subst (NoTree n s)
-    (sym i) (more-after n s p o C h l)
+end-parsed : {n : ℕ} {s : List ℕ} {p : ℕ} {o : Outermost} → Closing n s p o → {t : List ℕ}
+    → t ≡ table n o → (r : Parsed) → EndIs s p r → ParsedIs n s t r
+end-parsed {o = o} C e parsed.Whole (h, l) = (o, whole-text C h l, e)
+end-parsed {n} {s} C e (parsed.Bad q) (inl (i, h)) = subst (NoTree n s) (sym i) (no-semicolon C h)
+end-parsed {n} {s} C e (parsed.Bad q) (inr (i, h, l)) =
+    subst (NoTree n s) (sym i) (more-after C h l)
 
-module _ (n : ℕ) (s : List ℕ) where
+module _ {n : ℕ} {s : List ℕ} where
   -- ---- the first member
-  module _ (big : 4 ≤ n) (few : n ≤ most) (h : here s 0 opens ≡ true) (t : List ℕ)
-      (b : t ≡ blank n) where
+  module _ {t : List ℕ} (p : (4 ≤ n) × (n ≤ most) × (t ≡ blank n))
+      (h : here s 0 opens ≡ true) where
     pub first-ready : Ready n s t (record { at = 1; next = n; used = 0 }) 1 true
     first-ready = record {
-      big = big;
-      few = few;
-      slot = first-slot n few s h big;
+      big = p .0;
+      few = p .1;
+      slot = first-slot (p .1) s h (p .0);
       from = omega arith;
       numbers = omega (arith, size-none n);
-      len = ap length b ∙ blank-length n;
+      len = ap length (p .2) ∙ blank-length n;
     }
 
-    pub one-read : (t₁ : List ℕ) (c : Cursor) (x : ℕ)
+    pub one-read : {t₁ : List ℕ} {c : Cursor} {x : ℕ}
         → Read n s (record { at = 1; next = n; used = 0 }) 1 true t t₁ c x → One n s t₁ c x
-    one-read t₁ c x L = record {
-      big = big;
-      few = few;
+    one-read L = record {
+      big = p .0;
+      few = p .1;
       opened = h;
       first = L .member;
       past = L .past;
       next = L .next;
       used = L .used;
       named = L .named;
-      written = L .written ∙ ap (withRows (L .member) n) b;
+      written = L .written ∙ ap (withRows (L .member) n) (p .2);
     }
 
   -- ---- the second member
-  module _ (t : List ℕ) (c : Cursor) (x : ℕ) (O : One n s t c x) where
+  module _ {t : List ℕ} {c : Cursor} {x : ℕ} (O : One n s t c x) where
     pub no-second : here s (c .at) comma ≡ false → NoTree n s (c .at)
-    no-second e = no-first-comma n (O .few) s (O .opened) (O .first) (c .at)
-        (O .past) e
+    no-second e = no-first-comma (O .few) s (O .opened) (O .past) e
 
     module _ (k : here s (c .at) comma ≡ true) where
       pub second-ready : Ready n s t (ahead c) 0 true
@@ -80,21 +77,20 @@ module _ (n : ℕ) (s : List ℕ) where
         big = O .big;
         few = O .few;
         slot = subst (λ (u : ℕ). Slot n s (c .at + 1) u 0 true) (sym (O .used))
-            (second-slot n (O .few) s (O .opened) (O .first) (c .at) (O .past) k);
+            (second-slot (O .few) s (O .opened) (O .past) k);
         from = omega (arith, O .next);
         numbers = omega (
           arith,
           O .next,
-          ap (size n) (O .used)
-              ∙ mark-size n 0 1 true (O .first) (O .past .fits),
+          ap (size n) (O .used) ∙ mark-size (O .past .fits),
         );
         len = ap length (O .written) ∙ length-rows (O .first) n (blank n)
             ∙ blank-length n;
       }
 
-      pub two-read : (t₁ : List ℕ) (d : Cursor) (y : ℕ)
+      pub two-read : {t₁ : List ℕ} {d : Cursor} {y : ℕ}
           → Read n s (ahead c) 0 true t t₁ d y → Two n s t₁ d x y
-      two-read t₁ d y Q = record {
+      two-read {d = d} Q = record {
         big = O .big;
         few = O .few;
         opened = O .opened;
@@ -114,7 +110,7 @@ module _ (n : ℕ) (s : List ℕ) where
             (O .written);
       }
 
-  module _ (t : List ℕ) (c : Cursor) (x y : ℕ) (T : Two n s t c x y) where
+  module _ {t : List ℕ} {c : Cursor} {x y : ℕ} (T : Two n s t c x y) where
     both-size : size n (c .used) ≡ size n (mark (T .second) (mark (T .first) 0))
     both-size = ap (size n) (T .used)
 
@@ -122,8 +118,8 @@ module _ (n : ℕ) (s : List ℕ) where
     size-both = omega (
       arith,
       both-size,
-      mark-size n (mark (T .first) 0) 0 true (T .second) (T .past .fits),
-      mark-size n 0 1 true (T .first) (T .past-first .fits),
+      mark-size (T .past .fits),
+      mark-size (T .past-first .fits),
       size-none n,
     )
 
@@ -136,8 +132,7 @@ module _ (n : ℕ) (s : List ℕ) where
     x-low = omega (
       arith,
       T .named-first,
-      node-lt n (T .first) n
-          (below-n n 0 1 true (T .first) (T .past-first .fits)) (omega arith),
+      node-lt n (T .first) n (below-n (T .past-first .fits)) (omega arith),
     )
 
     y-low : y < c .next
@@ -145,14 +140,12 @@ module _ (n : ℕ) (s : List ℕ) where
       arith,
       T .named,
       T .next,
-      node-lt n (T .second) (n + groups (T .first))
-          (below-n n (mark (T .first) 0) 0 true (T .second) (T .past .fits)) (omega arith),
+      node-lt n (T .second) (n + groups (T .first)) (below-n (T .past .fits)) (omega arith),
     )
 
     counted : size most (c .used) ≡ size n (c .used)
     counted = subst (λ (u : ℕ). size most u ≡ size n u) (sym (T .used))
-        (size-is n (mark (T .second) (mark (T .first) 0)) (T .few)
-        (mark-within n (mark (T .first) 0) 0 true (T .second) (T .past .fits)))
+        (size-is (mark (T .second) (mark (T .first) 0)) (T .few) (mark-within (T .past .fits)))
 
     pub some-left : (size most (c .used) ≡ n → ⊥) → size n (c .used) < n
     some-left h = lt-of-le-ne (size-le n (c .used)) (λ q. h (counted ∙ q))
@@ -163,32 +156,20 @@ module _ (n : ℕ) (s : List ℕ) where
       none = sym both-size ∙ sym counted ∙ all
 
       pub no-end : here s (c .at) closes ≡ false → NoTree n s (c .at)
-      no-end e = no-two-close n (T .few) s (T .opened) (T .first) (T .place)
-          (T .past-first) (T .parted) (T .second) (c .at) (T .past) none e
+      no-end e = no-two-close (T .few) s (T .opened) (T .past-first) (T .parted) (T .past) none e
 
-      ends : ((node (T .first) n < node (T .second) (n + groups (T .first)))
-          × (node (T .second) (n + groups (T .first)) ≡ rows n))
-          ⊎ ((node (T .second) (n + groups (T .first)) < node (T .first) n)
-          × (node (T .first) n ≡ rows n))
-      ends =
-          last-larger n (T .first) (T .second) (T .big)
-          (below-n n 0 1 true (T .first) (T .past-first .fits))
-          (below-n n (mark (T .first) 0) 0 true (T .second) (T .past .fits))
-          (omega (arith, size-both, counted, all))
+      -- the larger of the two nodes is the last
+      ends : ((x < y) × (y ≡ rows n)) ⊎ ((y < x) × (x ≡ rows n))
+      ends = rw (T .named, T .named-first)
+          (last-larger n (T .first) (T .second) (T .big) (below-n (T .past-first .fits))
+          (below-n (T .past .fits)) (omega (arith, size-both, counted, all)))
 
       smaller-low : smaller x y < rows n
       smaller-low = go ends
         where
-          go : ((node (T .first) n < node (T .second) (n + groups (T .first)))
-              × (node (T .second) (n + groups (T .first)) ≡ rows n))
-              ⊎ ((node (T .second) (n + groups (T .first)) < node (T .first) n)
-              × (node (T .first) n ≡ rows n)) → smaller x y < rows n
-          go (inl (l, e)) = rw
-              (lt-ltb x y (omega (arith, l, T .named, T .named-first)))
-              (omega (arith, l, e, T .named-first))
-          go (inr (l, e)) = rw
-              (le-ltb x y (omega (arith, l, T .named, T .named-first)))
-              (omega (arith, l, e, T .named))
+          go : ((x < y) × (y ≡ rows n)) ⊎ ((y < x) × (x ≡ rows n)) → smaller x y < rows n
+          go (inl (l, e)) = rw (lt-ltb x y l) (omega (arith, l, e))
+          go (inr (l, e)) = rw (le-ltb x y (omega (arith, l))) (omega (arith, l, e))
 
       pub join-room : (2 * smaller x y + 1 < length t) × (x < 256) × (y < 256)
       join-room = (
@@ -197,15 +178,14 @@ module _ (n : ℕ) (s : List ℕ) where
         omega (arith, y-low, T .next, size-both, counted, all, T .few),
       )
 
-      pub two-parsed : (e : here s (c .at) closes ≡ true) (u : List ℕ)
+      pub two-parsed : (e : here s (c .at) closes ≡ true) {u : List ℕ}
           → u ≡ join (smaller x y) (larger x y) t → (r : Parsed)
           → EndIs s (c .at + 1) r → ParsedIs n s u r
       unfolding table
-      two-parsed e u q =
-          end-parsed n s (c .at + 1) (two (T .first) (T .second))
-          (two-closing n (T .few) s (T .opened) (T .first) (T .place) (T .past-first) (T .parted)
-          (T .second) (c .at) (T .past) none e)
-          u (q ∙ rw (T .written, T .named, T .named-first))
+      two-parsed e q =
+          end-parsed
+          (two-closing (T .few) s (T .opened) (T .past-first) (T .parted) (T .past) none e)
+          (q ∙ rw (T .written, T .named, T .named-first))
 
     -- ---- three members
     module _ (left : size n (c .used) < n) where
@@ -213,98 +193,108 @@ module _ (n : ℕ) (s : List ℕ) where
       some = omega (arith, left, both-size)
 
       pub no-third : here s (c .at) comma ≡ false → NoTree n s (c .at)
-      no-third e = no-second-comma n (T .few) s (T .opened) (T .first)
-          (T .place) (T .past-first) (T .parted) (T .second) (c .at)
-          (T .past) some e
+      no-third e =
+          no-second-comma (T .few) s (T .opened) (T .past-first) (T .parted) (T .past) some e
 
-      module _ (k : here s (c .at) comma ≡ true) where
-        pub third-ready : Ready n s t (ahead c) 0 false
-        third-ready = record {
-          big = T .big;
-          few = T .few;
-          slot = subst (λ (u : ℕ). Slot n s (c .at + 1) u 0 false)
-              (sym (T .used))
-              (third-slot n (T .few) s (T .opened) (T .first) (T .place) (T .past-first) (T .parted)
-              (T .second) (c .at) (T .past) some k);
-          from = omega (arith, T .next);
-          numbers = omega (arith, T .next, size-both);
-          len = two-length;
-        }
+      pub third-ready : here s (c .at) comma ≡ true → Ready n s t (ahead c) 0 false
+      third-ready k = record {
+        big = T .big;
+        few = T .few;
+        slot = subst (λ (u : ℕ). Slot n s (c .at + 1) u 0 false)
+            (sym (T .used))
+            (third-slot (T .few) s (T .opened) (T .past-first) (T .parted) (T .past) some k);
+        from = omega (arith, T .next);
+        numbers = omega (arith, T .next, size-both);
+        len = two-length;
+      }
 
-        module _ (t₁ : List ℕ) (d : Cursor) (z : ℕ) (Q : Read n s (ahead c) 0 false t t₁ d z) where
-          past-third : Past n s (c .at + 1) (mark (T .second) (mark (T .first) 0)) 0 false
-              (Q .member) (d .at)
-          past-third = subst
-              (λ (u : ℕ). Past n s (c .at + 1) u 0 false (Q .member) (d .at))
-              (T .used) (Q .past)
+-- the third member is read, the first two up to a comma
+pub record Three (n : ℕ) (s t : List ℕ) (c : Cursor) (x y z : ℕ) : Type 0 where
+  pub table : List ℕ
+  pub between : Cursor
+  pub both : Two n s table between x y
+  pub left : size n (between .used) < n
+  pub parted : here s (between .at) comma ≡ true
+  pub third : Read n s (ahead between) 0 false table t c z
 
-          pub no-last : here s (d .at) closes ≡ false → NoTree n s (d .at)
-          no-last e = no-three-close n (T .few) s (T .opened) (T .first)
-              (T .place) (T .past-first) (T .parted) (T .second) (c .at)
-              (T .past) some k (Q .member) (d .at) past-third e
+module _ {n : ℕ} {s t : List ℕ} {c : Cursor} {x y z : ℕ} (H : Three n s t c x y z) where
+  past-third : Past n s (H .between .at + 1) (mark (H .both .second) (mark (H .both .first) 0)) 0
+      false (H .third .member) (c .at)
+  past-third = subst
+      (λ (u : ℕ). Past n s (H .between .at + 1) u 0 false (H .third .member) (c .at))
+      (H .both .used) (H .third .past)
 
-          -- the outermost group is the last node
-          pub last-node : d .next ≡ rows n
-          last-node = omega
-              (arith, Q .next, T .next, size-both, Q .past .fits .full refl)
+  pub no-last : here s (c .at) closes ≡ false → NoTree n s (c .at)
+  no-last e =
+      let T = H .both in
+      no-three-close (T .few) s (T .opened) (T .past-first) (T .parted) (T .past) (some T (H .left))
+      (H .parted) past-third e
 
-          third-length : length t₁ ≡ 2 * rows n
-          third-length = ap length (Q .written)
-              ∙ length-rows (Q .member) (c .next) t ∙ two-length
+  -- the outermost group is the last node
+  last-node : c .next ≡ rows n
+  last-node = omega (
+    arith,
+    H .third .next,
+    H .both .next,
+    size-both (H .both),
+    H .third .past .fits .full refl,
+  )
 
-          z-low : z < d .next
-          z-low = omega (
-            arith,
+  third-length : length t ≡ 2 * rows n
+  third-length = ap length (H .third .written)
+      ∙ length-rows (H .third .member) (H .between .next) (H .table) ∙ two-length (H .both)
+
+  z-low : z < c .next
+  z-low = omega (
+    arith,
+    H .third .named,
+    H .third .next,
+    node-lt n (H .third .member) (H .between .next) (below-n (H .third .past .fits))
+        (omega (arith, H .both .next)),
+  )
+
+  -- each of the three rows has its place in the table
+  fits-row : (w : List ℕ) (v : ℕ) → length w ≡ 2 * rows n → v < c .next
+      → (2 * v + 1 < length w) × (v < 256) × (c .next < 256)
+  fits-row w v l h = (
+    omega (arith, l, h, last-node),
+    omega (arith, h, last-node, H .both .few),
+    omega (arith, last-node, H .both .few),
+  )
+
+  pub x-room : (2 * x + 1 < length t) × (x < 256) × (c .next < 256)
+  x-room = fits-row t x third-length
+      (omega (arith, x-low (H .both), H .third .next, H .both .next))
+
+  module _ {t₁ : List ℕ} (e₁ : t₁ ≡ join x (c .next) t) where
+    length₁ : length t₁ ≡ 2 * rows n
+    length₁ = ap length e₁ ∙ length-join t x (c .next) ∙ third-length
+
+    pub y-room : (2 * y + 1 < length t₁) × (y < 256) × (c .next < 256)
+    y-room = fits-row t₁ y length₁ (omega (arith, y-low (H .both), H .third .next))
+
+    module _ {t₂ : List ℕ} (e₂ : t₂ ≡ join y (c .next) t₁) where
+      pub z-room : (2 * z + 1 < length t₂) × (z < 256) × (c .next < 256)
+      z-room = fits-row t₂ z
+          (ap length e₂ ∙ length-join t₁ y (c .next) ∙ length₁) z-low
+
+      pub three-parsed : here s (c .at) closes ≡ true → {u : List ℕ} → u ≡ join z (c .next) t₂
+          → (r : Parsed) → EndIs s (c .at + 1) r → ParsedIs n s u r
+      unfolding table
+      three-parsed e q =
+          let T = H .both in
+          let Q = H .third in
+          end-parsed
+          (three-closing (T .few) s (T .opened) (T .past-first) (T .parted) (T .past)
+          (some T (H .left)) (H .parted) past-third e)
+          (q ∙ rw (
+            e₂,
+            e₁,
+            Q .written,
             Q .named,
             Q .next,
-            node-lt n (Q .member) (c .next)
-                (below-n n (c .used) 0 false (Q .member) (Q .past .fits))
-                (omega (arith, T .next)),
-          )
-
-          -- each of the three rows has its place in the table
-          fits-row : (w : List ℕ) (v : ℕ) → length w ≡ 2 * rows n → v < d .next
-              → (2 * v + 1 < length w) × (v < 256) × (d .next < 256)
-          fits-row w v l h = (
-            omega (arith, l, h, last-node),
-            omega (arith, h, last-node, T .few),
-            omega (arith, last-node, T .few),
-          )
-
-          pub x-room : (2 * x + 1 < length t₁) × (x < 256) × (d .next < 256)
-          x-room = fits-row t₁ x third-length
-              (omega (arith, x-low, Q .next, T .next))
-
-          module _ (t₂ : List ℕ) (e₂ : t₂ ≡ join x (d .next) t₁) where
-            length₂ : length t₂ ≡ 2 * rows n
-            length₂ = ap length e₂ ∙ length-join t₁ x (d .next) ∙ third-length
-
-            pub y-room : (2 * y + 1 < length t₂) × (y < 256) × (d .next < 256)
-            y-room = fits-row t₂ y length₂ (omega (arith, y-low, Q .next))
-
-            module _ (t₃ : List ℕ) (e₃ : t₃ ≡ join y (d .next) t₂) where
-              pub z-room : (2 * z + 1 < length t₃) × (z < 256) × (d .next < 256)
-              z-room = fits-row t₃ z
-                  (ap length e₃ ∙ length-join t₂ y (d .next) ∙ length₂) z-low
-
-              pub three-parsed : (e : here s (d .at) closes ≡ true) (u : List ℕ)
-                  → u ≡ join z (d .next) t₃ → (r : Parsed)
-                  → EndIs s (d .at + 1) r → ParsedIs n s u r
-              unfolding table
-              three-parsed e u q =
-                  end-parsed n s (d .at + 1)
-                  (three (T .first) (T .second) (Q .member))
-                  (three-closing n (T .few) s (T .opened) (T .first) (T .place) (T .past-first)
-                  (T .parted) (T .second) (c .at) (T .past) some k (Q .member) (d .at)
-                  past-third e)
-                  u (q ∙ rw (
-                    e₃,
-                    e₂,
-                    Q .written,
-                    Q .named,
-                    Q .next,
-                    T .next,
-                    T .named,
-                    T .named-first,
-                    T .written,
-                  ))
+            T .next,
+            T .named,
+            T .named-first,
+            T .written,
+          ))

@@ -18,44 +18,30 @@ use Rattle.tree.proofs.RowCounts.{count-mono, count-yes, pair}
 use Rattle.tree.proofs.RowsAt.{rows-at-length, without, others-without}
 use Rattle.tree.proofs.Joins.{joins-touch, touch-node}
 use Rattle.table.specs.Between.{Rowed}
+use Rattle.table.proofs.Ends.{told-same, told-other}
 use Rattle.node_rows.specs.Between.{free, hooked, Near, otherFirst, otherSecond, OtherTwo}
 
--- ---- storing a row
-module _ (a : List ℕ) (v r : ℕ) where
-  pub hook-0 : getD a (3 * v) 0 ≡ free → set a (3 * v) r ≡ hooked a v r
-  unfolding hooked
-  hook-0 h = rw (eq-eqb (getD a (3 * v) 0) free h)
-
-  pub hook-1 : (getD a (3 * v) 0 ≡ free → ⊥) → getD a (3 * v + 1) 0 ≡ free
-      → set a (3 * v + 1) r ≡ hooked a v r
-  unfolding hooked
-  hook-1 d h = rw (ne-eqb (getD a (3 * v) 0) free d, eq-eqb (getD a (3 * v + 1) 0) free h)
-
-  pub hook-2 : (getD a (3 * v) 0 ≡ free → ⊥) → (getD a (3 * v + 1) 0 ≡ free → ⊥)
-      → set a (3 * v + 2) r ≡ hooked a v r
-  unfolding hooked
-  hook-2 d h = rw (ne-eqb (getD a (3 * v) 0) free d, ne-eqb (getD a (3 * v + 1) 0) free h)
-
 -- ---- of the three rows at a node, those that are not e
-module _ {a : List ℕ} {v x y z : ℕ} (e : ℕ) (hx : x ≡ getD a (3 * v + 0) 0)
-    (hy : y ≡ getD a (3 * v + 1) 0)
-    (hz : z ≡ getD a (3 * v + 2) 0) where
+pub record Three (a : List ℕ) (v x y z : ℕ) : Type 0 where
+  pub first : x ≡ getD a (3 * v + 0) 0
+  pub second : y ≡ getD a (3 * v + 1) 0
+  pub third : z ≡ getD a (3 * v + 2) 0
+
+module _ {a : List ℕ} {v x y z e : ℕ} (p : Three a v x y z) where
   pub not-first : x ≡ e → OtherTwo e a v y z
   not-first d =
-      let h = eq-eqb (getD a (3 * v + 0) 0) e (sym hx ∙ d) in
-      record { first = rw h hy; second = rw h hz }
+      let h = told-same (p .first) d in
+      record { first = rw h (p .second); second = rw h (p .third) }
 
   pub not-second : (x ≡ e → ⊥) → y ≡ e → OtherTwo e a v x z
   not-second d c =
-      let h = ne-eqb (getD a (3 * v + 0) 0) e (λ w. d (hx ∙ w)) in
-      let k = eq-eqb (getD a (3 * v + 1) 0) e (sym hy ∙ c) in
-      record { first = rw h hx; second = rw (h, k) hz }
+      let h = told-other (p .first) d in
+      record { first = rw h (p .first); second = rw (h, told-same (p .second) c) (p .third) }
 
   pub not-third : (x ≡ e → ⊥) → (y ≡ e → ⊥) → OtherTwo e a v x y
   not-third d c =
-      let h = ne-eqb (getD a (3 * v + 0) 0) e (λ w. d (hx ∙ w)) in
-      let k = ne-eqb (getD a (3 * v + 1) 0) e (λ w. c (hy ∙ w)) in
-      record { first = rw h hx; second = rw (h, k) hy }
+      let h = told-other (p .first) d in
+      record { first = rw h (p .first); second = rw (h, told-other (p .second) c) (p .second) }
 
 -- ---- the list of the rows at a node, one row more
 at-yes : (t : List ℕ) (v k : ℕ) → touches t k v ≡ true
@@ -169,7 +155,7 @@ upto-none t k h v l = record {
   s2 = getD-replicate {A = ℕ} (3 * nodes most) (3 * v + 2) free 0 (omega arith);
 }
 
-module _ (n : ℕ) (t : List ℕ) (R : Rowed n t) (i : ℕ) (li : i < rows n) where
+module _ {n : ℕ} {t : List ℕ} {i : ℕ} (R : Rowed n t) (li : i < rows n) where
   at-most : (v : ℕ) → v < nodes n → count (λ r. touches t r v) (rows n) ≤ 3
   at-most v l = go (either (ltb v n))
     where
@@ -193,10 +179,10 @@ module _ (n : ℕ) (t : List ℕ) (R : Rowed n t) (i : ℕ) (li : i < rows n) wh
       rw (at-yes t v i h) (slots-here a (rowsAt t v i) v i (omega (arith, R .ordered .few))
       (two-at-most v l h) (small-at t v i (omega (arith, R .ordered .few))) S)
 
-  pub upto-more : (a : List ℕ) (u v r : ℕ) → length a ≡ 3 * nodes most → u ≡ lo t i → v ≡ hi t i
-      → r ≡ i → Upto t a (nodes n) i → Upto t (hooked (hooked a u r) v r) (nodes n) (i + 1)
-  upto-more a u v r room hu hv hr S w l =
-      rw (hr, hu, hv) (go (either (eqb w (lo t i))) (either (eqb w (hi t i))))
+  pub upto-more : (a : List ℕ) {u v : ℕ} → length a ≡ 3 * nodes most → u ≡ lo t i → v ≡ hi t i
+      → Upto t a (nodes n) i → Upto t (hooked (hooked a u i) v i) (nodes n) (i + 1)
+  upto-more a room hu hv S w l =
+      rw (hu, hv) (go (either (eqb w (lo t i))) (either (eqb w (hi t i))))
     where
       ord : (lo t i < hi t i) × (hi t i < nodes n)
       ord = R .ordered .order i li
@@ -239,9 +225,9 @@ three-of (x ∷ y ∷ z ∷ []) a v h S = let e : 3 * v + 0 ≡ 3 * v = omega ar
     rw (e, S .s0, S .s1, S .s2)
 three-of (x ∷ y ∷ z ∷ w ∷ l) a v h S = absurd (omega arith)
 
-pub near-of : (n : ℕ) (t a : List ℕ) → Rowed n t → length a ≡ 3 * nodes most
+pub near-of : {n : ℕ} {t a : List ℕ} → Rowed n t → length a ≡ 3 * nodes most
     → Upto t a (nodes n) (rows n) → Near n t a
-near-of n t a R room S = record {
+near-of {n} {t} {a} R room S = record {
   room = room;
   one = λ v l. one-of (rowsAt t v (rows n)) a v (rows-at-length t v (rows n) ∙ R .leaf v l)
       (S v (omega (arith, R .ordered .big)));
@@ -276,10 +262,10 @@ pub near-others : (n : ℕ) (t a : List ℕ) (e v : ℕ) → Valid n t → Near 
     → touches t e v ≡ true → n ≤ v
     → others t e v (rows n) ≡ otherFirst e a v ∷ otherSecond e a v ∷ []
 near-others n t a e v vt N le te inner =
-    let l : v < nodes n = touch-node n t e vt le v te in
+    let l : v < nodes n = touch-node e vt le v te in
     let all : others t e v (rows n)
     ≡ without e (getD a (3 * v + 0) 0 ∷ getD a (3 * v + 1) 0 ∷ getD a (3 * v + 2) 0 ∷ [])
     = others-without t e v (rows n) ∙ ap (without e) (N .three v inner l) in
-    let w = pair n t e v vt le te inner l in
+    let w = pair e v vt le te inner l in
     all ∙ two-left e (getD a (3 * v + 0) 0) (getD a (3 * v + 1) 0) (getD a (3 * v + 2) 0)
     (ap length (sym all ∙ w .2 .list))

@@ -9,6 +9,7 @@ use case_lists::LONG;
 use case_lists::MARK;
 use case_lists::all_marks;
 use case_lists::bytes;
+use case_lists::first_mut;
 use case_lists::numbers;
 use case_moves::four;
 use case_prints::kept;
@@ -71,19 +72,12 @@ fn refuse(l: &[u8], copy: &[u8], t: &mut [u8]) {
     line(title(l, 5));
 }
 
-// The same on the table in so many first bytes.
-fn on_table(l: &[u8], copy: &[u8], t: &mut [u8], long: usize) {
-    if long <= t.len() {
-        refuse(l, first(copy, long), &mut t[..long]);
-    }
-}
-
 // Runs the case in a line.
 fn case(input: &[u8], l: &[u8]) {
     let mut t = [0u8; LONG];
     let long = bytes(input, word(l, 2), &mut t);
     let copy = t;
-    on_table(l, &copy, &mut t, long);
+    refuse(l, first(&copy, long), first_mut(&mut t, long));
 }
 
 // Runs the cases in their order.
@@ -102,6 +96,5 @@ fn run(input: &[u8]) {
 // Reads the cases and runs them.
 fn main() {
     let mut input = io::large_buffer();
-    let got = case_lines::read(&mut input);
-    run(first(&input, got));
+    run(case_lines::read(&mut input));
 }

@@ -12,6 +12,7 @@ use native.Mathlib.Numerals.{add-one}
 use lib.Dec.{eqb, ltb, leb}
 use lib.ListN.{length, drop, getD}
 use lib.Seq.{drop-cons, drop-length}
+use mir.Val.{boolByte}
 use borrow.Author.Tests.{ltb-true, leb-false, ne-eqb, eq-eqb}
 use Rattle.taxa.specs.Sets.{pick, tally, size}
 use Rattle.taxa.proofs.Bools.{and-left, and-right, and-false-r}
@@ -32,11 +33,10 @@ unfolding countsAsSaved
 changed-not-counted n y d h =
     sym (ap (λ (b : Bool). b && fourOrMore n y) (ne-eqb d 0 h))
 
-pub same-counted-four : (n y d : ℕ) → d ≡ 0
-    → leb 4 (size n y) ≡ countsAsSaved n y d
+pub same-counted-four : (n y d : ℕ) {r : ℕ} → d ≡ 0 → r ≡ size n y
+    → leb 4 r ≡ countsAsSaved n y d
 unfolding countsAsSaved fourOrMore
-same-counted-four n y d h =
-    sym (ap (λ (b : Bool). b && leb 4 (size n y)) (eq-eqb d 0 h))
+same-counted-four n y d h e = rw (e, eq-eqb d 0 h)
 
 -- what counts as saved has distance 0
 counted-same : (n y d : ℕ) → countsAsSaved n y d ≡ true → eqb d 0 ≡ true
@@ -76,21 +76,23 @@ saved-wide n w (y ∷ ys) (d ∷ ds) h right =
     (counted-wide n w y d h (ltb-true y (2 ^ n) (and-left p q right)))
     (saved-wide n w ys ds h (and-right p q right))
 
--- ---- the partitions from place i on: the one there, and the rest; none at the
--- end
-module _ (n : ℕ) (ys ds : List ℕ) (i : ℕ) (even : length ys ≡ length ds) where
-  pub saved-rest : i < length ds
-      → savedOf n (drop i ys) (drop i ds)
-      ≡ tally (countsAsSaved n (getD ys i 0) (getD ds i 0))
-      + savedOf n (drop (i + 1) ys) (drop (i + 1) ds)
-  unfolding savedOf
-  saved-rest l =
-      rw (drop-cons ys i 0 (omega arith), drop-cons ds i 0 l, add-one)
+-- ---- r partitions are saved before place i, all in all: the one there, and none
+-- left at the end
+module _ (n : ℕ) (ys ds : List ℕ) (i r : ℕ) {all : ℕ} (even : length ys ≡ length ds)
+    (saved : r + savedOf n (drop i ys) (drop i ds) ≡ all)
+  where
+    pub saved-more : (b : Bool) → b ≡ countsAsSaved n (getD ys i 0) (getD ds i 0) → i < length ds
+        → r + boolByte b + savedOf n (drop (i + 1) ys) (drop (i + 1) ds) ≡ all
+    unfolding savedOf
+    saved-more b e l =
+        let k = rw (drop-cons ys i 0 (omega arith), drop-cons ds i 0 l) at saved in
+        rw (add-one, e) (omega (arith, k))
 
-  pub saved-end : i ≤ length ds → length ds ≤ i
-      → savedOf n (drop i ys) (drop i ds) ≡ 0
-  unfolding savedOf
-  saved-end l m = let e : i ≡ length ys = omega arith in rw (e, drop-length)
+    pub saved-all : i ≤ length ds → length ds ≤ i → r ≡ all
+    unfolding savedOf
+    saved-all l m =
+        let e : i ≡ length ys = omega arith in
+        omega (arith, rw (e, drop-length) at saved)
 
 -- ---- the distances of two trees
 -- those saved are those unchanged of the partitions of four or more taxa
@@ -139,5 +141,5 @@ others-unchanged n t u (y ∷ ys) first second right =
     go ih false e =
         let bound = ltb-true y (2 ^ n) (and-left p q right) in
         let few : size n y < 4 = leb-false 4 (size n y) e in
-        let same = few-same n y bound few t u first second in
+        let same = few-same n y bound few first second in
         rw (eq-eqb (dist n t u y) 0 same) (omega (arith, ih))

@@ -36,7 +36,7 @@ pub two : {n : ℕ} {t near : List ℕ} {e v f g : ℕ} → EndOf n t e v → Ne
     → OtherTwo e near v f g
     → Pair n t e v f g
 two {n} {t} {near} {e} {v} {f} {g} a N inner o =
-    pair-of n t e v f g (a .valid) (a .row) (a .touch) inner (end-node a)
+    pair-of e v f g (a .valid) (a .row) (a .touch) inner (end-node a)
     (near-others n t near e v (a .valid) N (a .row) (a .touch) inner
     ∙ sym (ap₂ (λ (x y : ℕ). x ∷ y ∷ []) (o .first) (o .second)))
 
@@ -49,7 +49,7 @@ module _ {n : ℕ} {t : List ℕ} {e v f g x y : ℕ} (a : EndOf n t e v) (inner
   union hp hq =
       ap₂ bitOr (hp ∙ ap (λ (z : ℕ). part n t f z % 2 ^ n) ex)
       (hq ∙ ap (λ (z : ℕ). part n t g z % 2 ^ n) ey)
-      ∙ taxa-both n t e v f g (a .valid) (a .row) (a .touch) inner K
+      ∙ taxa-both (a .valid) (a .row) (a .touch) inner K
 
   -- a row that lies with v is e, f or g, or lies beyond f or beyond g
   row-where : (r : ℕ) → r < rows n → has (part n t e v) (lo t r) ≡ true
@@ -75,8 +75,8 @@ module _ {n : ℕ} {t : List ℕ} {e v f g x y : ℕ} (a : EndOf n t e v) (inner
       go (inr x) (inl y) z = inr (inl (eqb-true r f y))
       go (inr x) (inr y) (inl z) = inr (inr (inl (eqb-true r g z)))
       go (inr x) (inr y) (inr z) =
-          let all = node-side n t e v f g (a .valid) (a .row) (a .touch) inner K (lo t r) low in
-          let k = fork n t e v f g (a .valid) (a .row) (a .touch) inner K in
+          let all = node-side (a .valid) (a .row) (a .touch) inner K (lo t r) low in
+          let k = fork (a .valid) (a .row) (a .touch) inner K in
           let away = k .only r l (eqb-false r e x) (eqb-false r f y) (eqb-false r g z) .0 in
           inr (inr (inr (last (has (part n t f (far t f v)) (lo t r))
           (has (part n t g (far t g v)) (lo t r)) (eqb v (lo t r)) (sym all ∙ p)
@@ -141,17 +141,17 @@ module _ {n : ℕ} {t : List ℕ} {e v : ℕ} (a : EndOf n t e v) where
           stored-keep s₂ r l₂ h (G .inside r h (ap (λ (z : ℕ). has (part n t g z) (lo t r)) ey ∙ q))
 
 -- ---- from taxon 0 every row is met
-pub all-sides : (n : ℕ) (t near : List ℕ) (e v : ℕ) (good : Accepted n t) (N : Near n t near)
-    → e ≡ getD near (3 * 0 + 0) 0
-    → v ≡ far t e 0 → {s s′ : List ℕ} → length s ≡ rows most → Filled n t e v s s′ → Sides n t s′
-all-sides n t near e v good N ee ev {s} {s′} room F =
+pub all-sides : {n : ℕ} {t near : List ℕ} {e v : ℕ} {s s′ : List ℕ} → Accepted n t → Near n t near
+    → e ≡ getD near (3 * 0 + 0) 0 → v ≡ far t e 0 → length s ≡ rows most → Filled n t e v s s′
+    → Sides n t s′
+all-sides {n} {t} {near} {e} {v} {s} {s′} good N ee ev room F =
     record { room = F .len ∙ room; right = λ r h. go r h (either (eqb r e)) }
   where
     tax : 0 < n
     tax = omega (arith, good .valid .big)
 
     row : Across n t 0 e
-    row = place-0 n t near 0 (accepted-rowed n t good) N (omega (arith, good .valid .big)) e ee
+    row = place-0 (accepted-rowed good) N (omega (arith, good .valid .big)) ee
 
     go : (r : ℕ) → r < rows n → (eqb r e ≡ true) ⊎ (eqb r e ≡ false) → getD s′ r 0 ≡ side n t r
     go r h (inl w) = subst (λ (x : ℕ). getD s′ x 0 ≡ side n t x) (sym (eqb-true r e w)) (F .here)
@@ -159,12 +159,12 @@ all-sides n t near e v good N ee ev {s} {s′} room F =
         let low : lo t r < nodes n =
         omega (arith, good .valid .order r h .0, good .valid .order r h .1) in
         let at-zero : 0 ≡ lo t r → r ≡ e = λ x.
-        leaf-only n t 0 e (good .valid) tax (row .row) (row .at) r h
+        leaf-only 0 e (good .valid) tax (row .row) (row .at) r h
         (joins-touch t r 0 (hi t r) (inl (sym x, refl))) in
         let d : 0 ≡ lo t r → ⊥ = λ x. eqb-false r e w (at-zero x) in
         F .inside r h (
         ap (λ (x : ℕ). has (part n t e x) (lo t r)) ev
-        ∙ two-sides n t e 0 (far t e 0) (good .valid) (row .row) (touch-joins t e 0 (row .at))
+        ∙ two-sides e 0 (far t e 0) (good .valid) (row .row) (touch-joins t e 0 (row .at))
         (lo t r) low
-        ∙ ap not (leaf-side n t e 0 (good .valid) tax (row .row) (row .at) (lo t r) low
+        ∙ ap not (leaf-side e 0 (good .valid) tax (row .row) (row .at) (lo t r) low
         ∙ ne-eqb 0 (lo t r) d))

@@ -42,9 +42,9 @@ rows-right : (n : ℕ) (t : List ℕ) {c : Checked} → checkSays c ≡ rowSaid 
     → rowSaid n t ≡ gives tt
 rows-right n t e h = sym e ∙ ap checkSays h
 
-pub found-rowed : (n : ℕ) (t : List ℕ) {c : Checked} → checkSays c ≡ rowSaid n t → c ≡ Checked.Tree
-    → Rowed n t
-found-rowed n t e h = said-rowed n t (rows-right n t e h)
+pub found-rowed : {n : ℕ} {t : List ℕ} {c : Checked} → checkSays c ≡ rowSaid n t
+    → c ≡ Checked.Tree → Rowed n t
+found-rowed {n} {t} e h = said-rowed n t (rows-right n t e h)
 
 module _ {n : ℕ} {t : List ℕ} {c : Checked} (rows-say : checkSays c ≡ rowSaid n t)
     {near s : List ℕ} where
@@ -67,16 +67,11 @@ module _ {n : ℕ} {t : List ℕ} {c : Checked} (rows-say : checkSays c ≡ rowS
     pub found-5 : b ≡ false → Found n t (Checked.Refused Refusal.Unreached) near s
     found-5 w =
         let e = is-5 n t (rows-right n t rows-say h) (sym (R .all) ∙ w) in
-        record {
-          says = e;
-          near = not-tree n t Refusal.Unreached e;
-          sides = not-tree n t
-              Refusal.Unreached e;
-        }
+        record { says = e; near = not-tree n t _ e; sides = not-tree n t _ e }
 
 -- a tree's table has its rows
-pub accepted-rowed : (n : ℕ) (t : List ℕ) → Accepted n t → Rowed n t
-accepted-rowed n t a = record {
+pub accepted-rowed : {n : ℕ} {t : List ℕ} → Accepted n t → Rowed n t
+accepted-rowed a = record {
   ordered = record {
     big = a .valid .big;
     few = a .few;

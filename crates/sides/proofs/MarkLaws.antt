@@ -60,8 +60,8 @@ left-set ms v len l h =
     go u p (inl w) = ap (λ (x : ℕ). not (mark ms x)) (eqb-true u v w) ∙ ap not h
     go u p (inr w) = ap not (sym (mark-other ms v u (eqb-false u v w))) ∙ p
 
-pub left-spread : (n : ℕ) (t ms ms′ : List ℕ) → Spread n t ms ms′ → left ms′ ≤ left ms
-left-spread n t ms ms′ s =
+pub left-spread : {n : ℕ} {t ms ms′ : List ℕ} → Spread n t ms ms′ → left ms′ ≤ left ms
+left-spread {n} {t} {ms} {ms′} s =
     count-sub (λ u. not (mark ms′ u)) (λ u. not (mark ms u)) (nodes most)
     (λ u m p. go u p (either (mark ms u)))
   where
@@ -71,16 +71,16 @@ left-spread n t ms ms′ s =
     go u p (inr w) = ap not w
 
 -- ---- one spreading after another
-pub spread-none : (n : ℕ) (t ms : List ℕ) → Spread n t ms ms
-spread-none n t ms = record {
+pub spread-none : {n : ℕ} {t ms : List ℕ} → Spread n t ms ms
+spread-none = record {
   len = refl;
   more = λ u h. h;
   reached = λ u h k. absurd (true≢false (sym k ∙ h));
   beside = λ u r h k. absurd (true≢false (sym k ∙ h));
 }
 
-pub spread-both : (n : ℕ) (t a b c : List ℕ) → Spread n t a b → Spread n t b c → Spread n t a c
-spread-both n t a b c p q = record {
+pub spread-both : {n : ℕ} {t a b c : List ℕ} → Spread n t a b → Spread n t b c → Spread n t a c
+spread-both {n} {t} {a} {b} {c} p q = record {
   len = q .len ∙ p .len;
   more = λ u h. q .more u (p .more u h);
   reached = λ u h k. at u h k (either (mark b u));
@@ -97,16 +97,16 @@ spread-both n t a b c p q = record {
     next u r h k l x (inl w) = q .more (far t r u) (p .beside u r h w l x)
     next u r h k l x (inr w) = q .beside u r w k l x
 
-pub visited-already : (n : ℕ) (t : List ℕ) (v : ℕ) (ms : List ℕ) → mark ms v ≡ true
+pub visited-already : {n : ℕ} {t : List ℕ} {v : ℕ} {ms : List ℕ} → mark ms v ≡ true
     → Visited n t v ms ms
-visited-already n t v ms h = record { here = h; spread = spread-none n t ms }
+visited-already h = record { here = h; spread = spread-none }
 
 -- v marked, and then all beside it
-pub visited-of : (n : ℕ) (t : List ℕ) (v : ℕ) (ms ms′ : List ℕ) → v < length ms
+pub visited-of : {n : ℕ} {t : List ℕ} {v : ℕ} {ms ms′ : List ℕ} → v < length ms
     → fromZero n t v ≡ true → mark ms v ≡ false → Spread n t (set ms v 1) ms′
     → ((r : ℕ) → r < rows n → touches t r v ≡ true → mark ms′ (far t r v) ≡ true)
     → Visited n t v ms ms′
-visited-of n t v ms ms′ room z h s all = record {
+visited-of {n} {t} {v} {ms} {ms′} room z h s all = record {
   here = s .more v (mark-same ms v room);
   spread = record {
     len = s .len ∙ length-set ms v 1;
@@ -128,11 +128,11 @@ visited-of n t v ms ms′ room z h s all = record {
     next u r a b l x (inr w) = s .beside u r (mark-other ms v u (eqb-false u v w) ∙ a) b l x
 
 -- ---- what is marked in the end
-module _ (n : ℕ) (t : List ℕ) (R : Rowed n t) where
+module _ {n : ℕ} {t : List ℕ} (R : Rowed n t) where
   -- from no mark at all, exactly what can be reached is marked
-  pub marks-reached : (ms ms′ : List ℕ) → ((u : ℕ) → mark ms u ≡ false) → Visited n t 0 ms ms′
+  pub marks-reached : {ms ms′ : List ℕ} → ((u : ℕ) → mark ms u ≡ false) → Visited n t 0 ms ms′
       → every (mark ms′) (nodes n) ≡ every (fromZero n t) (nodes n)
-  marks-reached ms ms′ none seen =
+  marks-reached {ms} {ms′} none seen =
       every-same (mark ms′) (fromZero n t) (nodes n)
       (λ u l. bool-eq (mark ms′ u) (fromZero n t u) (seen .spread .reached u (none u)) (back u))
     where

@@ -1,22 +1,28 @@
 -- How many splits there are, and two lists of them compared. Assumes nothing.
-use mathlib.Core.Path.{_≡_, sym, ap, ap₂, _∙_, subst}
+use mathlib.Core.Path.{_≡_, sym, ap, _∙_, subst}
 use mathlib.Core.Bool.{Bool, true, false}
 use mathlib.Core.List.{List, [], _∷_}
-use Prim.Native.Nat.{ℕ, zero, suc, _+_, _-_, _^_, _≤_, _<_}
+use Prim.Native.Nat.{ℕ, zero, suc, _^_, _≤_}
 use native.Mathlib.Nat.{le-refl}
 use native.Mathlib.Omega.{arith}
 use lib.Dec.{eqb, ltb}
-use lib.ListN.{length}
+use lib.ListN.{length, take, replicate, length-replicate}
+use borrow.Author.Tests.{ltb-true}
+use Rattle.calls.specs.Calls.{Said, gives}
+use Rattle.calls.specs.Between.{Wrote}
+use Rattle.calls.proofs.StartLaws.{wrote-take}
 use Rattle.taxa.specs.Most.{most}
 use Rattle.taxa.specs.Sets.{pick, size}
 use Rattle.taxa.proofs.Sets.{has-below}
 use Rattle.taxa.proofs.Sizes.{size-wide}
-use Rattle.tree.specs.Tree.{rows, Valid}
-use Rattle.tree.specs.Lists.{insert, lacks, firstLack, Asc}
+use Rattle.tree.specs.Tree.{rows}
+use Rattle.tree.specs.Refusals.{Accepted}
+use Rattle.tree.specs.Lists.{insert, Asc}
 use Rattle.tree.specs.Splits.{side, meets, flips, split, splitsTo, splitsBy, splits, members}
 use Rattle.tree.specs.Splits.{distBy, missing}
 use Rattle.tree.proofs.SplitLaws.{splits-asc}
 use Rattle.tree.proofs.Members.{members-count}
+use Rattle.sides.specs.Between.{Sided}
 use Rattle.splits.specs.Between.{SplitList, listsApart}
 use Rattle.splits.specs.Promises.{treesApart}
 
@@ -31,11 +37,17 @@ insert-length x (y ∷ ys) = go (insert-length x ys) (ltb x y) (eqb x y)
     go ih false true = omega arith
     go ih false false = omega arith
 
--- ---- how much room is needed
-pub needed : (n : ℕ) (t : List ℕ) (y : ℕ) → Valid n t → n ≤ most → y < 2 ^ n
+-- ---- how much room is needed: the tree is one, and y names none but its taxa
+pub record Within (n : ℕ) (t : List ℕ) (y : ℕ) : Type 0 where
+  pub good : Accepted n t
+  pub bound : ltb y (2 ^ n) ≡ true
+
+pub needed : {n : ℕ} {t : List ℕ} {y : ℕ} → Within n t y
     → length (splits n t y) ≡ members (size most y)
-needed n t y vt few bound = members-count n t y vt bound
-    ∙ ap members (sym (size-wide n most y few (λ i. has-below n y i bound)))
+needed {n} {t} {y} o =
+    let bound = ltb-true y (2 ^ n) (o .bound) in
+    members-count y (o .good .valid) bound
+    ∙ ap members (sym (size-wide n most y (o .good .few) (λ i. has-below n y i bound)))
 
 -- no more splits than rows
 splits-to-few : (n : ℕ) (t : List ℕ) (y k : ℕ) → length (splitsTo flips n t y k) ≤ k
@@ -49,22 +61,27 @@ splits-to-few n t y (suc k) = go (splits-to-few n t y k) (meets y (side n t k))
     go ih true = omega (arith, insert-length (split n y (side n t k)) (splitsTo flips n t y k))
     go ih false = omega arith
 
-pub splits-few : (n : ℕ) (t : List ℕ) (y : ℕ) → length (splits n t y) ≤ rows n
-unfolding splitsBy
-splits-few n t y = splits-to-few n t y (rows n)
+module _ {n : ℕ} {t s : List ℕ} (S : Sided n t s) (y : ℕ) where
+  splits-few : length (splits n t y) ≤ rows most
+  unfolding splitsBy
+  splits-few = omega (arith, splits-to-few n t y (rows n), S .good .few)
 
--- they are listed as a tree's splits are
-pub split-list : (n : ℕ) (t : List ℕ) (y : ℕ) {a : List ℕ} → n ≤ most → a ≡ splits n t y
-    → SplitList a
-split-list n t y few e = record {
-  ascends = subst Asc (sym e) (splits-asc n t y);
-  few = omega (arith, ap length e, splits-few n t y);
-}
+  -- an array of as many numbers as a tree has rows has room for them
+  pub splits-room : length (splits n t y) ≤ length {A = ℕ} (replicate (rows most) 0)
+  splits-room = omega (arith, splits-few, length-replicate {A = ℕ} (rows most) 0)
+
+  -- what is written is listed as a tree's splits are
+  pub written-list : {m : List ℕ} {r : ℕ} {m′ : List ℕ} → Wrote length (splits n t y) m r m′
+      → SplitList (take r m′)
+  written-list w = record {
+    ascends = subst Asc (sym (wrote-take w)) (splits-asc n t y);
+    few = omega (arith, ap length (wrote-take w), splits-few);
+  }
 
 -- the comparison of what is written at the start of two lists is that of the
 -- two trees
-pub compared-lists : (n : ℕ) (t u : List ℕ) (y : ℕ) (a b : List ℕ) → a ≡ splits n t y
+pub compared-lists : (n : ℕ) (t u : List ℕ) (y : ℕ) {a b : List ℕ} → a ≡ splits n t y
     → b ≡ splits n u y
-    → listsApart a b ≡ treesApart n t u y
+    → _≡_ {A = Said (ℕ × ℕ)} (gives (listsApart a b)) (gives (treesApart n t u y))
 unfolding distBy missing
-compared-lists n t u y a b p q = ap₂ (λ (x z : List ℕ). (lacks x z + lacks z x, firstLack x z)) p q
+compared-lists n t u y p q = rw (p, q)

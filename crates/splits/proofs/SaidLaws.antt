@@ -1,28 +1,32 @@
 -- What the two calls say at each test of the code, and that each answer is
 -- settled by what it says. Assumes nothing.
 use mathlib.Core.Path.{_≡_, sym, ap, ap₂, _∙_}
-use mathlib.Core.Bool.{true, false}
+use mathlib.Core.Bool.{false}
 use mathlib.Core.List.{List, [], _++_}
 use Prim.Native.Nat.{ℕ, _^_, _≤_, _<_}
 use native.Mathlib.Omega.{arith}
-use lib.Dec.{ltb, leb}
+use lib.Dec.{ltb}
 use lib.ListN.{length}
 use borrow.Author.Tests.{le-leb, lt-leb}
 use Rattle.calls.specs.declared.Refusal.{Refusal}
-use Rattle.calls.specs.Calls.{Check, gives, refuses, judged, Pass}
+use Rattle.calls.specs.Calls.{Check, gives, judged, Pass}
 use Rattle.calls.proofs.CheckLaws.{judged-pass, judged-next, judged-fail, refuses-more}
 use Rattle.calls.proofs.CallLaws.{answers, call-refuses, call-gives}
 use Rattle.tree.specs.Splits.{splits}
 use Rattle.tree.specs.Refusals.{countChecks, tableChecks, treeChecks, partitionChecks, roomChecks}
-use Rattle.tree.specs.Refusals.{treeSaid, Accepted}
+use Rattle.tree.specs.Refusals.{Accepted}
 use Rattle.tree.proofs.RefusalLaws.{accepted-pass}
 use Rattle.calls.specs.Between.{Wrote}
+use Rattle.table.specs.declared.Checked.{Checked}
+use Rattle.sides.specs.Between.{Found}
+use Rattle.sides.proofs.LookLaws.{found-refused}
 use Rattle.splits.specs.declared.Induced.{Induced}
 use Rattle.splits.specs.declared.Induced.the-variants as induced
 use Rattle.splits.specs.declared.Compared.{Compared}
 use Rattle.splits.specs.declared.Compared.the-variants as compared
 use Rattle.splits.specs.Promises.{inducedSaid, inducedSays, Induces}
 use Rattle.splits.specs.Promises.{treesApart, comparedSaid, compareSays, Compares}
+use Rattle.splits.proofs.ListLaws.{Within}
 
 -- ---- the induced splits
 module _ (n : ℕ) (t : List ℕ) (y : ℕ) (out : List ℕ) where
@@ -32,81 +36,88 @@ module _ (n : ℕ) (t : List ℕ) (y : ℕ) (out : List ℕ) where
   abbrev room : List Check
   room = roomChecks (length l) (length out)
 
-  pub induces-tree : (r : Refusal) → treeSaid n t ≡ refuses r
-      → Induces n t y out (induced.Refused r) out
-  induces-tree r h = call-refuses r
-      (refuses-more (treeChecks n t) (partitionChecks n y ++ room) tt l r h)
+  past-5 : Accepted n t → inducedSaid n t y (length out) ≡ judged (partitionChecks n y ++ room) l
+  past-5 good =
+      judged-pass (treeChecks n t) (partitionChecks n y ++ room) l (accepted-pass n t good)
 
-  module _ (good : Accepted n t) where
-    past-5 : inducedSaid n t y (length out) ≡ judged (partitionChecks n y ++ room) l
-    past-5 = judged-pass (treeChecks n t) (partitionChecks n y ++ room) l (accepted-pass n t good)
+  past-6 : Within n t y → inducedSaid n t y (length out) ≡ judged room l
+  past-6 w = past-5 (w .good)
+      ∙ judged-next (ltb y (2 ^ n)) Refusal.Partition room l (w .bound)
 
-    pub induces-6 : ltb y (2 ^ n) ≡ false
-        → Induces n t y out (induced.Refused Refusal.Partition) out
-    induces-6 h =
-        call-refuses Refusal.Partition
-        (past-5 ∙ judged-fail (ltb y (2 ^ n)) Refusal.Partition room l h)
+module _ {n : ℕ} {t : List ℕ} (y : ℕ) {out : List ℕ} where
+  pub induces-tree : {c : Checked} {r : Refusal} {near s : List ℕ} → Found n t c near s
+      → c ≡ Checked.Refused r → Induces n t y out (induced.Refused r) out
+  induces-tree {r = r} f e = call-refuses r
+      (refuses-more (treeChecks n t) (partitionChecks n y ++ room n t y out) tt (splits n t y) r
+      (found-refused f e))
 
-    module _ (bound : ltb y (2 ^ n) ≡ true) where
-      past-6 : inducedSaid n t y (length out) ≡ judged room l
-      past-6 = past-5 ∙ judged-next (ltb y (2 ^ n)) Refusal.Partition room l bound
+  pub induces-6 : Accepted n t → ltb y (2 ^ n) ≡ false
+      → Induces n t y out (induced.Refused Refusal.Partition) out
+  induces-6 good h =
+      call-refuses Refusal.Partition
+      (past-5 n t y out good
+      ∙ judged-fail (ltb y (2 ^ n)) Refusal.Partition (room n t y out) (splits n t y) h)
 
-      pub induces-11 : length out < length l → Induces n t y out (induced.Refused Refusal.Room) out
-      induces-11 h =
-          call-refuses Refusal.Room
-          (past-6 ∙ judged-fail (leb (length l) (length out)) Refusal.Room [] l
-          (lt-leb (length l) (length out) h))
+module _ {n : ℕ} {t : List ℕ} {y : ℕ} {out : List ℕ} (w : Within n t y) where
+  pub induces-11 : length out < length (splits n t y)
+      → Induces n t y out (induced.Refused Refusal.Room) out
+  induces-11 h =
+      call-refuses Refusal.Room
+      (past-6 n t y out w ∙ judged-fail _ Refusal.Room [] (splits n t y)
+      (lt-leb (length (splits n t y)) (length out) h))
 
-      pub induces-list : length l ≤ length out → (r : ℕ) (out′ : List ℕ) → Wrote length l out r out′
-          → Induces n t y out (induced.Count r) out′
-      unfolding judged
-      induces-list h r out′ L =
-          call-gives l
-          (past-6 ∙ judged-next (leb (length l) (length out)) Refusal.Room [] l
-          (le-leb (length l) (length out) h))
-          (L .count) (L .memory)
+  pub induces-list : length (splits n t y) ≤ length out → {r : ℕ} {out′ : List ℕ}
+      → Wrote length (splits n t y) out r out′ → Induces n t y out (induced.Count r) out′
+  unfolding judged
+  induces-list h L =
+      call-gives (splits n t y)
+      (past-6 n t y out w ∙ judged-next _ Refusal.Room [] (splits n t y)
+      (le-leb (length (splits n t y)) (length out) h))
+      (L .count) (L .memory)
 
 -- ---- the comparison
 module _ (n : ℕ) (t u : List ℕ) (y : ℕ) where
   abbrev both : ℕ × ℕ
   both = treesApart n t u y
 
-  pub compares-first : (r : Refusal) → treeSaid n t ≡ refuses r
-      → Compares n t u y (compared.Refused r)
-  compares-first r h =
-      answers (sym (refuses-more (treeChecks n t) (tableChecks n u ++ partitionChecks n y) tt both r
-      h))
+  past-first : Accepted n t
+      → comparedSaid n t u y ≡ judged (tableChecks n u ++ partitionChecks n y) both
+  past-first good = judged-pass (treeChecks n t) (tableChecks n u ++ partitionChecks n y) both
+      (accepted-pass n t good)
 
-  module _ (good : Accepted n t) where
-    -- The count n belongs to both trees.
-    count-pass : Pass (countChecks n)
-    count-pass = (accepted-pass n t good .0, tt)
+  past-second : Accepted n t → Accepted n u
+      → comparedSaid n t u y ≡ judged (partitionChecks n y) both
+  past-second good good′ = past-first good
+      ∙ judged-pass (tableChecks n u) (partitionChecks n y) both (accepted-pass n u good′ .1)
 
-    past-first : comparedSaid n t u y ≡ judged (tableChecks n u ++ partitionChecks n y) both
-    past-first = judged-pass (treeChecks n t) (tableChecks n u ++ partitionChecks n y) both
-        (accepted-pass n t good)
+pub compares-first : {n : ℕ} {t : List ℕ} (u : List ℕ) (y : ℕ) {c : Checked} {r : Refusal}
+    {near s : List ℕ} → Found n t c near s → c ≡ Checked.Refused r
+    → Compares n t u y (compared.Refused r)
+compares-first {n} {t} u y {r = r} f e =
+    answers (sym (refuses-more (treeChecks n t) (tableChecks n u ++ partitionChecks n y) tt
+    (both n t u y) r (found-refused f e)))
 
-    pub compares-second : (r : Refusal) → treeSaid n u ≡ refuses r
-        → Compares n t u y (compared.Refused r)
-    compares-second r h =
-        let w = sym (judged-pass (countChecks n) (tableChecks n u) tt count-pass) ∙ h in
-        answers (sym (past-first ∙ refuses-more (tableChecks n u) (partitionChecks n y) (tt {0})
-        both r w))
+module _ {n : ℕ} {t u : List ℕ} (y : ℕ) (good : Accepted n t) where
+  -- the count n belongs to both trees
+  pub compares-second : {c : Checked} {r : Refusal} {near s : List ℕ} → Found n u c near s
+      → c ≡ Checked.Refused r → Compares n t u y (compared.Refused r)
+  compares-second {r = r} f e =
+      let count : Pass (countChecks n) = (accepted-pass n t good .0, tt) in
+      let w = sym (judged-pass (countChecks n) (tableChecks n u) tt count) ∙ found-refused f e in
+      answers (sym (past-first n t u y good
+      ∙ refuses-more (tableChecks n u) (partitionChecks n y) (tt {0}) (both n t u y) r w))
 
-    module _ (good′ : Accepted n u) where
-      past-second : comparedSaid n t u y ≡ judged (partitionChecks n y) both
-      past-second = past-first ∙ judged-pass (tableChecks n u) (partitionChecks n y) both
-          (accepted-pass n u good′ .1)
+  pub compares-6 : Accepted n u → ltb y (2 ^ n) ≡ false
+      → Compares n t u y (compared.Refused Refusal.Partition)
+  compares-6 good′ h = answers (sym (past-second n t u y good good′
+      ∙ judged-fail (ltb y (2 ^ n)) Refusal.Partition [] (both n t u y) h))
 
-      pub compares-6 : ltb y (2 ^ n) ≡ false → Compares n t u y (compared.Refused Refusal.Partition)
-      compares-6 h = answers (sym (past-second
-          ∙ judged-fail (ltb y (2 ^ n)) Refusal.Partition [] both h))
-
-      pub compares-both : ltb y (2 ^ n) ≡ true → (r : Compared) → compareSays r ≡ gives both
-          → Compares n t u y r
-      unfolding judged
-      compares-both h r e =
-          answers (e ∙ sym (past-second ∙ judged-next (ltb y (2 ^ n)) Refusal.Partition [] both h))
+pub compares-both : {n : ℕ} {t u : List ℕ} {y : ℕ} → Within n t y → Accepted n u → (r : Compared)
+    → compareSays r ≡ gives (treesApart n t u y) → Compares n t u y r
+unfolding judged
+compares-both {n} {t} {u} {y} w good r e =
+    answers (e ∙ sym (past-second n t u y (w .good) good
+    ∙ judged-next (ltb y (2 ^ n)) Refusal.Partition [] (both n t u y) (w .bound)))
 
 -- ---- an answer is settled by what it says
 pub induced-one : (a b : Induced) → inducedSays a ≡ inducedSays b → a ≡ b

@@ -1,12 +1,12 @@
 // Steps over the table's field of a job, with more or less memory lent for the
 // table, run on the cases of standard input: for each what is wrong, how many
 // bytes were lent, whether they are as they were, and the answer.
-use case_lines::first;
 use case_lines::size;
 use case_lines::title;
 use case_lines::word;
 use case_lists::LONG;
-use case_lists::bytes;
+use case_lists::first_mut;
+use case_lists::given;
 use case_lists::marked;
 use case_prints::kept;
 use case_prints::line;
@@ -62,18 +62,14 @@ fn lend(words: &[u8], job: &[u8], table: &mut [u8]) {
 
 // A case `step ROOM BYTES TITLE`.
 fn on_job(l: &[u8], job: &[u8]) {
-    let room = size(l, 1);
     let mut table = [MARK; job_steps::TABLE];
-    if room <= job_steps::TABLE {
-        lend(title(l, 3), job, &mut table[..room]);
-    }
+    lend(title(l, 3), job, first_mut(&mut table, size(l, 1)));
 }
 
 // Runs the case in a line.
 fn case(input: &[u8], l: &[u8]) {
     let mut j = [0u8; LONG];
-    let long = bytes(input, word(l, 2), &mut j);
-    on_job(l, first(&j, long));
+    on_job(l, given(input, word(l, 2), &mut j));
 }
 
 // Runs the cases in their order.
@@ -92,6 +88,5 @@ fn run(input: &[u8]) {
 // Reads the cases and runs them.
 fn main() {
     let mut input = io::large_buffer();
-    let got = case_lines::read(&mut input);
-    run(first(&input, got));
+    run(case_lines::read(&mut input));
 }

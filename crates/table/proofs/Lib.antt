@@ -1,3 +1,4 @@
+pub mod Ends
 pub mod Tallies
 pub mod Stages
 pub mod OneCheck

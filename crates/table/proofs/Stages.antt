@@ -14,9 +14,9 @@ use Rattle.calls.specs.Calls.{_else_, gives, refuses, judged}
 use Rattle.table.specs.Between.{rowSaid, Rowed}
 use Rattle.tree.specs.Refusals.{countChecks, rowChecks}
 use Rattle.calls.proofs.CheckLaws.{judged-next, judged-fail, gives-pass}
-use Rattle.table.proofs.Tallies.{ordered-of, rowed-of}
+use Rattle.table.proofs.Tallies.{Sized, ordered-of, rowed-of}
 
-module _ (n : ℕ) (t : List ℕ) where
+module _ {n : ℕ} (t : List ℕ) where
   pub is-1-low : n < 4 → refuses Refusal.Count ≡ rowSaid n t
   is-1-low h = sym (judged-fail (leb 4 n && leb n most) Refusal.Count (rowChecks n t) tt
       (ap (λ (b : Bool). b && leb n most) (lt-leb 4 n h)))
@@ -34,39 +34,36 @@ module _ (n : ℕ) (t : List ℕ) where
     is-2 h = sym (past-1 ∙ judged-fail (eqb (length t) (2 * rows n)) Refusal.Length _ tt
         (ne-eqb (length t) (2 * rows n) h))
 
-    module _ (len : length t ≡ 2 * rows n) where
-      past-2 : rowSaid n t ≡ judged
-          ((every (inOrder n t) (rows n) else Refusal.Ends)
-          ∷ (every (rightDegree n t) (nodes n) else Refusal.Degree) ∷ []) (tt {0})
-      past-2 = past-1 ∙ judged-next (eqb (length t) (2 * rows n)) Refusal.Length _ tt
-          (eq-eqb (length t) (2 * rows n) len)
+module _ {n : ℕ} {t : List ℕ} (z : Sized n t) where
+  past-2 : rowSaid n t ≡ judged
+      ((every (inOrder n t) (rows n) else Refusal.Ends)
+      ∷ (every (rightDegree n t) (nodes n) else Refusal.Degree) ∷ []) (tt {0})
+  past-2 = past-1 t (z .big) (z .few)
+      ∙ judged-next (eqb (length t) (2 * rows n)) Refusal.Length _ tt
+      (eq-eqb (length t) (2 * rows n) (z .len))
 
-      pub is-3 : every (inOrder n t) (rows n) ≡ false → refuses Refusal.Ends ≡ rowSaid n t
-      is-3 h = sym (past-2 ∙ judged-fail (every (inOrder n t) (rows n)) Refusal.Ends _ tt h)
+  pub is-3 : every (inOrder n t) (rows n) ≡ false → refuses Refusal.Ends ≡ rowSaid n t
+  is-3 h = sym (past-2 ∙ judged-fail (every (inOrder n t) (rows n)) Refusal.Ends _ tt h)
 
-      past-3 : every (inOrder n t) (rows n) ≡ true
-          → rowSaid n t ≡ judged ((every (rightDegree n t) (nodes n) else Refusal.Degree) ∷ [])
-          (tt {0})
-      past-3 o = past-2 ∙ judged-next (every (inOrder n t) (rows n)) Refusal.Ends _ tt o
+  module _ (o : every (inOrder n t) (rows n) ≡ true) where
+    past-3 : rowSaid n t
+        ≡ judged ((every (rightDegree n t) (nodes n) else Refusal.Degree) ∷ []) (tt {0})
+    past-3 = past-2 ∙ judged-next (every (inOrder n t) (rows n)) Refusal.Ends _ tt o
 
-      pub is-4 : every (inOrder n t) (rows n) ≡ true → every (rightDegree n t) (nodes n) ≡ false
-          → refuses Refusal.Degree ≡ rowSaid n t
-      is-4 o h = sym (past-3 o ∙ judged-fail (every (rightDegree n t) (nodes n)) Refusal.Degree []
-          tt h)
+    pub is-4 : every (rightDegree n t) (nodes n) ≡ false → refuses Refusal.Degree ≡ rowSaid n t
+    is-4 h = sym (past-3 ∙ judged-fail (every (rightDegree n t) (nodes n)) Refusal.Degree [] tt h)
 
-      pub is-rowed : every (inOrder n t) (rows n) ≡ true → every (rightDegree n t) (nodes n) ≡ true
-          → gives (tt {0}) ≡ rowSaid n t
-      unfolding judged
-      is-rowed o h = sym (past-3 o ∙ judged-next (every (rightDegree n t) (nodes n)) Refusal.Degree
-          [] tt h)
+    pub is-rowed : every (rightDegree n t) (nodes n) ≡ true → gives (tt {0}) ≡ rowSaid n t
+    unfolding judged
+    is-rowed h = sym (past-3 ∙ judged-next (every (rightDegree n t) (nodes n)) Refusal.Degree [] tt
+        h)
 
 -- where the checks 1 to 4 refuse nothing, the table has its rows
 pub said-rowed : (n : ℕ) (t : List ℕ) → rowSaid n t ≡ gives tt → Rowed n t
 said-rowed n t h =
     let p = gives-pass (countChecks n ++ rowChecks n t) tt tt h in
-    rowed-of n t
-    (ordered-of n t
-    (leb-true 4 n (and-left (leb 4 n) (leb n most) (p .0)))
-    (leb-true n most (and-right (leb 4 n) (leb n most) (p .0)))
-    (eqb-true (length t) (2 * rows n) (p .1 .0)) (p .1 .1 .0))
-    (p .1 .1 .1 .0)
+    rowed-of (ordered-of (record {
+      big = leb-true 4 n (and-left (leb 4 n) (leb n most) (p .0));
+      few = leb-true n most (and-right (leb 4 n) (leb n most) (p .0));
+      len = eqb-true (length t) (2 * rows n) (p .1 .0);
+    }) (p .1 .1 .0)) (p .1 .1 .1 .0)

@@ -1,5 +1,5 @@
 -- Laws for the counts of rows at each node. Assumes nothing.
-use mathlib.Core.Path.{_≡_, sym, ap, _∙_}
+use mathlib.Core.Path.{_≡_, refl, sym, ap, _∙_}
 use mathlib.Core.Logic.{_⊎_, inl, inr}
 use mathlib.Core.Bool.{Bool, true, false, _&&_, _||_}
 use mathlib.Core.List.{List}
@@ -17,6 +17,7 @@ use Rattle.tree.specs.Tree.{lo, hi, rows, nodes, touches, inOrder, rightDegree,
 use Rattle.tree.specs.Tree.{every, count}
 use Rattle.tree.proofs.RowCounts.{every-all, all-every, every-same, touch-tally, count-le}
 use Rattle.table.specs.Between.{Ordered, Rowed, Counted, hasFrom}
+use Rattle.table.proofs.Ends.{lo-node, hi-node}
 
 -- one more at place a
 bump : (d : List ℕ) (a v x : ℕ) → a < length d → x ≡ getD d a 0 + 1
@@ -27,65 +28,90 @@ bump d a v x h e = go (either (eqb a v))
     go (inl w) = rw (w, ← eqb-true a v w, getD-set-same d a x 0 h) e
     go (inr w) = rw (w, getD-set-other d a v x 0 (λ q. eqb-false a v w (sym q))) (omega arith)
 
-module _ (n : ℕ) (t : List ℕ) where
-  pub counted-none : n ≤ most → Counted n t (replicate (nodes most) 0) 0
+pub counted-none : (n : ℕ) (t : List ℕ) → n ≤ most → Counted n t (replicate (nodes most) 0) 0
+unfolding count
+counted-none n t h = record {
+  room = length-replicate {A = ℕ} (nodes most) 0;
+  at = λ v l. getD-replicate {A = ℕ} (nodes most) v 0 0 (omega arith);
+}
+
+-- Row i is to be counted at its ends a and b.
+pub record Counting (n : ℕ) (t d : List ℕ) (i a b : ℕ) : Type 0 where
+  pub ordered : Ordered n t
+  pub row : i < rows n
+  pub counted : Counted n t d i
+  pub first : a ≡ lo t i
+  pub second : b ≡ hi t i
+
+module _ {n : ℕ} {t d : List ℕ} {i a b : ℕ} (c : Counting n t d i a b) where
+  abbrev once : List ℕ
+  once = set d a (getD d a 0 + 1)
+
+  ends : (lo t i < hi t i) × (hi t i < nodes n)
+  ends = c .ordered .order i (c .row)
+
+  pub a-lt : a < nodes most
+  a-lt = lo-node (c .ordered) (c .row) (c .first)
+
+  pub b-lt : b < nodes most
+  b-lt = hi-node (c .ordered) (c .row) (c .second)
+
+  -- no count passes the number of rows, so a byte holds it
+  pub a-fits : getD d a 0 + 1 < 256
+  a-fits = omega (
+    arith,
+    c .counted .at a (omega (arith, ends .0, ends .1, c .first)),
+    count-le (λ r. touches t r a) i,
+    c .row,
+    c .ordered .few,
+  )
+
+  pub b-fits : getD once b 0 + 1 < 256
+  b-fits = omega (
+    arith,
+    getD-set-other d a b (getD d a 0 + 1) 0 (λ e. omega (arith, ends .0, c .first, c .second)),
+    c .counted .at b (omega (arith, ends .1, c .second)),
+    count-le (λ r. touches t r b) i,
+    c .row,
+    c .ordered .few,
+  )
+
+  pub counted-more : Counted n t (set once b (getD once b 0 + 1)) (i + 1)
   unfolding count
-  counted-none h = record {
-    room = length-replicate {A = ℕ} (nodes most) 0;
-    at = λ v l. getD-replicate {A = ℕ} (nodes most) v 0 0 (omega arith);
+  counted-more = record {
+    room = length-set once b (getD once b 0 + 1) ∙ length-set d a (getD d a 0 + 1)
+        ∙ c .counted .room;
+    at = λ v l.
+        bump once b v (getD once b 0 + 1)
+        (omega (arith, length-set d a (getD d a 0 + 1), b-lt, c .counted .room)) refl
+        ∙ ap (λ (k : ℕ). k + tally (eqb b v))
+        (bump d a v (getD d a 0 + 1) (omega (arith, a-lt, c .counted .room)) refl)
+        ∙ rw (add-one i, c .first, c .second) (omega (
+          arith,
+          c .counted .at v l,
+          touch-tally t i v (λ e. omega (arith, ends .0)),
+        ));
   }
 
-  module _ (d : List ℕ) (i : ℕ) (o : Ordered n t) (li : i < rows n) (c : Counted n t d i) where
-    pub lo-room : lo t i < length d
-    lo-room = omega (arith, o .order i li .0, o .order i li .1, c .room, o .few)
+-- the test of the counts is the test of the degrees
+pub degrees-test : {n : ℕ} {t d : List ℕ} → Counted n t d (rows n)
+    → every (λ v. eqb (getD d v 0) (wanted n v)) (nodes n) ≡ every (rightDegree n t) (nodes n)
+degrees-test {n} {t} {d} c =
+    every-same (λ v. eqb (getD d v 0) (wanted n v)) (rightDegree n t) (nodes n)
+    (λ v l. ap (λ (x : ℕ). eqb x (wanted n v)) (c .at v l))
 
-    pub hi-room : hi t i < length d
-    hi-room = omega (arith, o .order i li .1, c .room, o .few)
+-- The checks 1 and 2 pass.
+pub record Sized (n : ℕ) (t : List ℕ) : Type 0 where
+  pub big : 4 ≤ n
+  pub few : n ≤ most
+  pub len : length t ≡ 2 * rows n
 
-    -- no count passes the number of rows, so a byte holds it
-    pub lo-fits : getD d (lo t i) 0 < rows n
-    lo-fits = omega (
-      arith,
-      c .at (lo t i) (omega (arith, o .order i li .0, o .order i li .1)),
-      count-le (λ r. touches t r (lo t i)) i,
-    )
-
-    pub counted-more : (a b x y : ℕ) → a ≡ lo t i → b ≡ hi t i → x ≡ getD d a 0 + 1
-        → y ≡ getD (set d a x) b 0 + 1 → Counted n t (set (set d a x) b y) (i + 1)
-    unfolding count
-    counted-more a b x y ha hb hx hy = record {
-      room = length-set (set d a x) b y ∙ length-set d a x ∙ c .room;
-      at = λ v l.
-          bump (set d a x) b v y (omega (arith, length-set d a x, hi-room)) hy
-          ∙ ap (λ (k : ℕ). k + tally (eqb b v)) (bump d a v x (omega (arith, lo-room)) hx)
-          ∙ rw (add-one i, ha, hb) (omega (
-            arith,
-            c .at v l,
-            touch-tally t i v (λ e. omega (arith, o .order i li .0)),
-          ));
-    }
-
-    pub hi-fits : (a x : ℕ) → a ≡ lo t i → x ≡ getD d a 0 + 1 → getD (set d a x) (hi t i) 0 < rows n
-    hi-fits a x ha hx =
-        omega (
-          arith,
-          getD-set-other d a (hi t i) x 0 (λ e. omega (arith, o .order i li .0)),
-          c .at (hi t i) (o .order i li .1),
-          count-le (λ r. touches t r (hi t i)) i,
-        )
-
-  -- the test of the counts is the test of the degrees
-  pub degrees-test : (d : List ℕ) → Counted n t d (rows n)
-      → every (λ v. eqb (getD d v 0) (wanted n v)) (nodes n) ≡ every (rightDegree n t) (nodes n)
-  degrees-test d c = every-same (λ v. eqb (getD d v 0) (wanted n v)) (rightDegree n t) (nodes n)
-      (λ v l. ap (λ (x : ℕ). eqb x (wanted n v)) (c .at v l))
-
-  pub ordered-of : 4 ≤ n → n ≤ most → length t ≡ 2 * rows n
-      → every (inOrder n t) (rows n) ≡ true → Ordered n t
-  ordered-of b f l e = record {
-    big = b;
-    few = f;
-    len = l;
+module _ {n : ℕ} {t : List ℕ} where
+  pub ordered-of : Sized n t → every (inOrder n t) (rows n) ≡ true → Ordered n t
+  ordered-of z e = record {
+    big = z .big;
+    few = z .few;
+    len = z .len;
     order = λ r h.
         let w = every-all (inOrder n t) (rows n) e r h in (
           ltb-true (lo t r) (hi t r)
@@ -94,6 +120,7 @@ module _ (n : ℕ) (t : List ℕ) where
             arith,
             leb-true (hi t r) (2 * n - 3)
                 (and-right (ltb (lo t r) (hi t r)) (leb (hi t r) (2 * n - 3)) w),
+            z .big,
           ),
         );
   }
@@ -123,9 +150,9 @@ module _ (n : ℕ) (d : List ℕ) where
       ∙ ap (λ (p : Bool). p || eqb (getD d v 0) 3) (sym (le-ltb v n l))
 
   -- each way node by node, by whether the node is a taxon
-  pub two-stretches : (p q : Bool) → p ≡ every (hasFrom d 0 1) n
+  pub two-stretches : {p q : Bool} → p ≡ every (hasFrom d 0 1) n
       → q ≡ every (hasFrom d n 3) (nodes n) → n ≤ nodes n → every right (nodes n) ≡ (p && q)
-  two-stretches p q e f h =
+  two-stretches {p} {q} e f h =
       bool-eq (every right (nodes n)) (p && q)
       (λ w. and-both p q
       (e ∙ all-every (hasFrom d 0 1) n (λ v l. sym (from-low v l)

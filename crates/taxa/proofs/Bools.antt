@@ -2,6 +2,7 @@
 use mathlib.Core.Path.{_≡_, refl, sym, ap, ap₂, _∙_}
 use mathlib.Core.Logic.{_⊎_, inl, inr}
 use mathlib.Core.Bool.{Bool, true, false, not, _&&_, _||_, true≢false, false≢true, or-true}
+use borrow.Author.Tests.{not-true, not-false}
 
 -- a test passes or not
 abbrev pub Either : Bool → Type 0
@@ -10,6 +11,13 @@ Either b = (b ≡ true) ⊎ (b ≡ false)
 pub either : (b : Bool) → Either b
 either true = inl refl
 either false = inr refl
+
+-- a call tells the test b by its answer r, and the code asks for the opposite
+pub told-true : {r b : Bool} → r ≡ b → not r ≡ false → b ≡ true
+told-true e h = sym e ∙ not-false _ h
+
+pub told-false : {r b : Bool} → r ≡ b → not r ≡ true → b ≡ false
+told-false e h = sym e ∙ not-true _ h
 
 pub not-both : (b : Bool) → b ≡ true → b ≡ false → ⊥
 not-both b p q = true≢false (sym p ∙ q)

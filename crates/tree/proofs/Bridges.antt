@@ -158,7 +158,7 @@ pub record Table (n : ℕ) (t : List ℕ) : Type 0 where
   pub ends : Ends t (rows n) (nodes n)
   pub connected : Connected n t
 
-module _ (n : ℕ) (t : List ℕ) (e : ℕ) (big : 4 ≤ n) (tab : Table n t) (he : e < rows n) where
+module _ {n : ℕ} {t : List ℕ} (e : ℕ) (big : 4 ≤ n) (tab : Table n t) (he : e < rows n) where
   mine : ℕ
   mine = part n t e (lo t e)
 

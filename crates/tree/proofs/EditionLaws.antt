@@ -41,14 +41,10 @@ read-written (v ∷ t) = ap₂ _∷_ (omega (arith, div-add-mod' v 256)) (read-w
 -- The checks refuse nothing exactly where a table of 4(2n-3) bytes is read as
 -- a valid one of at most 256 taxa.
 pub wide-accepted : (n : ℕ) (b : List ℕ) → (treeSaidOf wide n b ≡ gives tt) ↔ AcceptedOf wide n b
-wide-accepted = accepted-iffOf wide wide-sized
+wide-accepted = accepted-iffOf wide-sized
 
 -- So every valid table of at most 256 taxa is accepted in the bytes that are
 -- written for it.
-pub wide-written : (n : ℕ) (t : List ℕ) → n ≤ 256 → Valid n t → AcceptedOf wide n (unpaired t)
-wide-written n t few v =
-    record {
-      few = few;
-      whole = omega (arith, wide-long t, v .len);
-      valid = rw (read-written t) v;
-    }
+pub wide-written : {n : ℕ} {t : List ℕ} → n ≤ 256 → Valid n t → AcceptedOf wide n (unpaired t)
+wide-written {n} {t} few v =
+    record { few = few; whole = omega (arith, wide-long t, v .len); valid = rw (read-written t) v }

@@ -39,7 +39,7 @@ module _ {n : ℕ} {t : List ℕ} {e v : ℕ} (a : EndOf n t e v) where
   end-joins = touch-joins t e v (a .touch)
 
   pub end-node : v < nodes n
-  end-node = touch-node n t e (a .valid) (a .row) v (a .touch)
+  end-node = touch-node e (a .valid) (a .row) v (a .touch)
 
   -- ---- the other end
   back : Joins t e (far t e v) v
@@ -50,24 +50,24 @@ module _ {n : ℕ} {t : List ℕ} {e v : ℕ} (a : EndOf n t e v) where
 
   pub far-far : far t e (far t e v) ≡ v
   far-far = far-is t e (far t e v) v back
-      (joins-differ n t e (a .valid) (a .row) (far t e v) v back)
+      (joins-differ e (a .valid) (a .row) (far t e v) v back)
 
   -- ---- the two other rows at an inner end
   module _ (inner : n ≤ v) where
     pub end-pair : (f g : ℕ) × Pair n t e v f g
-    end-pair = pair n t e v (a .valid) (a .row) (a .touch) inner end-node
+    end-pair = pair e v (a .valid) (a .row) (a .touch) inner end-node
 
     module _ {f g : ℕ} (K : Pair n t e v f g) where
       here : (i : ℕ) → i < nodes n
           → has (part n t e v) i ≡ (has (part n t f (far t f v)) i || has (part n t g (far t g v)) i
           || eqb v i)
-      here = node-side n t e v f g (a .valid) (a .row) (a .touch) inner K
+      here = node-side (a .valid) (a .row) (a .touch) inner K
 
       pub first-branch : Branch n t e v f
       first-branch =
           record {
             at = record { valid = a .valid; row = K .f-lt; touch = K .f-p };
-            fall = less-f n t e v f g (a .valid) (a .row) (a .touch) inner K;
+            fall = less-f (a .valid) (a .row) (a .touch) inner K;
             within = λ i l p. here i l
                 ∙ or-left _ (eqb v i) (or-left _ (has (part n t g (far t g v)) i) p);
           }
@@ -76,7 +76,7 @@ module _ {n : ℕ} {t : List ℕ} {e v : ℕ} (a : EndOf n t e v) where
       second-branch =
           record {
             at = record { valid = a .valid; row = K .g-lt; touch = K .g-p };
-            fall = less-g n t e v f g (a .valid) (a .row) (a .touch) inner K;
+            fall = less-g (a .valid) (a .row) (a .touch) inner K;
             within = λ i l p. here i l
                 ∙ or-left _ (eqb v i) (or-right (has (part n t f (far t f v)) i) _ p);
           }
@@ -107,7 +107,7 @@ module _ {n : ℕ} {t : List ℕ} {e v : ℕ} (a : EndOf n t e v) where
           ≡ (ltb i n && has (part n t e (lo t e)) i)
       at i (inl w) =
           let l : i < nodes n = omega (arith, ltb-true i n w, a .valid .big) in
-          rw w (sym (two-sides n t e v (lo t e) (a .valid) (a .row) (inr (refl, high)) i l))
+          rw w (sym (two-sides e v (lo t e) (a .valid) (a .row) (inr (refl, high)) i l))
       at i (inr w) = rw w
 
   -- ---- with a taxon lies no other row
@@ -115,6 +115,6 @@ module _ {n : ℕ} {t : List ℕ} {e v : ℕ} (a : EndOf n t e v) where
   row-one tax r l p =
       let low : lo t r < nodes n = omega (arith, a .valid .order r l .0, a .valid .order r l .1) in
       let w : v ≡ lo t r = eqb-true v (lo t r)
-      (sym (leaf-side n t e v (a .valid) tax (a .row) (a .touch) (lo t r) low) ∙ p) in
-      leaf-only n t v e (a .valid) tax (a .row) (a .touch) r l
+      (sym (leaf-side e v (a .valid) tax (a .row) (a .touch) (lo t r) low) ∙ p) in
+      leaf-only v e (a .valid) tax (a .row) (a .touch) r l
       (joins-touch t r v (hi t r) (inl (sym w, refl)))

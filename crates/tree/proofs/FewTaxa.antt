@@ -61,13 +61,13 @@ module _ (n y : ℕ) (bound : y < 2 ^ n) (few : size n y < 4) where
       let w = out-of flips n t y x h in
       let v = single (side n t (w .0)) (w .2) in
       let e : x ≡ split n y (2 ^ v .0) = w .3 ∙ v .2 in
-      let kept = kept-out n t y bound x h .2 in
+      let kept = kept-out n t y bound x h .kept in
       ap (λ (z : ℕ). mem z (splits n u y)) e
-      ∙ leaf-in n u y (v .0) valid bound (v .1) (ap some (sym e) ∙ kept)
+      ∙ leaf-in y (v .0) valid bound (v .1) (ap some (sym e) ∙ kept)
 
-  pub few-same : (t u : List ℕ) → Valid n t → Valid n u → dist n t u y ≡ 0
+  pub few-same : {t u : List ℕ} → Valid n t → Valid n u → dist n t u y ≡ 0
   unfolding distBy
-  few-same t u first second = omega (
+  few-same {t} {u} first second = omega (
     arith,
     lacks-none (splits n t y) (splits n u y) (shared t u second),
     lacks-none (splits n u y) (splits n t y) (shared u t first),

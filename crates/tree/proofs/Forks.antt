@@ -50,7 +50,7 @@ not-of-false : (p q : Bool) → p ≡ not q → p ≡ false → q ≡ true
 not-of-false p true h l = refl
 not-of-false p false h l = absurd (true≢false (sym h ∙ l))
 
-module _ (n : ℕ) (t : List ℕ) (p e x f q a c : ℕ) (k : Fork n t p e x f q a c) (A B : ℕ)
+module _ {n : ℕ} {t : List ℕ} {p e x f q a c : ℕ} (k : Fork n t p e x f q a c) {A B : ℕ}
     (ha : Hangs n t x p A) (hb : Hangs n t f p B) where
   pub at-a : has A a ≡ true
   at-a = not-of-false (has A p) (has A a) (apart-join t x p a (has A) (k .x-row) (ha .parts .apart))
@@ -126,10 +126,10 @@ module _ (n : ℕ) (t : List ℕ) (p e x f q a c : ℕ) (k : Fork n t p e x f q 
 
 -- p with rows a, x and y and no other, where x and y are f and g in either
 -- order
-pub fork-of : (n : ℕ) (t : List ℕ) (a p f g : ℕ) → Valid n t → a < rows n → touches t a p ≡ true
+pub fork-of : {n : ℕ} {t : List ℕ} {a p f g : ℕ} → Valid n t → a < rows n → touches t a p ≡ true
     → n ≤ p → Pair n t a p f g
     → Fork n t p a f g (far t a p) (far t f p) (far t g p)
-fork-of n t a p f g v ha ta ip k =
+fork-of {n} {t} {a} {p} {f} {g} v ha ta ip k =
     let j = touch-joins t a p ta in
     record {
       e-row = j;
@@ -141,15 +141,15 @@ fork-of n t a p f g v ha ta ip k =
       ex = λ w. k .fa (sym w);
       ef = λ w. k .ga (sym w);
       xf = λ w. omega (arith, k .fg);
-      pq = joins-differ n t a v ha p (far t a p) j;
+      pq = joins-differ a v ha p (far t a p) j;
       inner = ip;
-      p-lt = joins-nodes n t a v ha p (far t a p) j .0;
+      p-lt = joins-nodes a v ha p (far t a p) j .0;
       only = λ r h x y z. not-touch t r p (k .only r h x y z);
     }
 
-pub fork-swap : (n : ℕ) (t : List ℕ) (p e x f q a c : ℕ) → Fork n t p e x f q a c
+pub fork-swap : {n : ℕ} {t : List ℕ} {p e x f q a c : ℕ} → Fork n t p e x f q a c
     → Fork n t p e f x q c a
-fork-swap n t p e x f q a c k = record {
+fork-swap {n} {t} {p} {e} {x} k = record {
   e-row = k .e-row;
   x-row = k .f-row;
   f-row = k .x-row;
@@ -166,16 +166,16 @@ fork-swap n t p e x f q a c k = record {
 }
 
 -- ---- what lies with an inner end
-module _ (n : ℕ) (t : List ℕ) (e v f g : ℕ) (vt : Valid n t) (le : e < rows n)
+module _ {n : ℕ} {t : List ℕ} {e v f g : ℕ} (vt : Valid n t) (le : e < rows n)
     (te : touches t e v ≡ true) (inner : n ≤ v) (K : Pair n t e v f g) where
   pub fork : Fork n t v e f g (far t e v) (far t f v) (far t g v)
-  fork = fork-of n t e v f g vt le te inner K
+  fork = fork-of vt le te inner K
 
   pub hang-f : Hangs n t f v (part n t f (far t f v))
-  hang-f = hangs n t f v (far t f v) vt (K .f-lt) (fork .x-row)
+  hang-f = hangs f v (far t f v) vt (K .f-lt) (fork .x-row)
 
   pub hang-g : Hangs n t g v (part n t g (far t g v))
-  hang-g = hangs n t g v (far t g v) vt (K .g-lt) (fork .f-row)
+  hang-g = hangs g v (far t g v) vt (K .g-lt) (fork .f-row)
 
   pub node-side : (i : ℕ) → i < nodes n
       → has (part n t e v) i ≡ (has (part n t f (far t f v)) i || has (part n t g (far t g v)) i
@@ -183,9 +183,8 @@ module _ (n : ℕ) (t : List ℕ) (e v f g : ℕ) (vt : Valid n t) (le : e < row
   node-side i l =
       let A = part n t f (far t f v) in
       let B = part n t g (far t g v) in
-      part-is n t e v (far t e v) vt le (fork .e-row) (joined A B v)
-      (joined-parts n t v e f g (far t e v) (far t f v) (far t g v) fork A B hang-f hang-g)
-      (joined-in n t v e f g (far t e v) (far t f v) (far t g v) fork A B hang-f hang-g) i l
+      part-is e v (far t e v) vt le (fork .e-row) (joined-parts fork hang-f hang-g)
+      (joined-in fork hang-f hang-g) i l
       ∙ has-joined A B v i
 
   -- each of the two is smaller
@@ -231,15 +230,15 @@ module _ (n : ℕ) (t : List ℕ) (e v f g : ℕ) (vt : Valid n t) (le : e < row
       go i (inr w) = rw w
 
 -- ---- a taxon lies alone on its side of its row
-module _ (n : ℕ) (t : List ℕ) (e v : ℕ) (vt : Valid n t) (lv : v < n) (le : e < rows n)
+module _ {n : ℕ} {t : List ℕ} (e v : ℕ) (vt : Valid n t) (lv : v < n) (le : e < rows n)
     (te : touches t e v ≡ true) where
   pub leaf-parts : Parts n t e (2 ^ v)
   leaf-parts = record {
     apart = join-apart t e v (far t e v) (has (2 ^ v)) j (has-pow v v ∙ eq-eqb v v refl
         ∙ sym (ap not (has-pow v (far t e v)
-        ∙ ne-eqb v (far t e v) (joins-differ n t e vt le v (far t e v) j))));
+        ∙ ne-eqb v (far t e v) (joins-differ e vt le v (far t e v) j))));
     closed = λ r lr d.
-        let o = not-touch t r v (λ w. d (leaf-only n t v e vt lv le te r lr w)) in
+        let o = not-touch t r v (λ w. d (leaf-only v e vt lv le te r lr w)) in
         has-pow v (lo t r) ∙ ne-eqb v (lo t r) (o .0)
         ∙ sym (has-pow v (hi t r) ∙ ne-eqb v (hi t r) (o .1));
   }
@@ -249,7 +248,7 @@ module _ (n : ℕ) (t : List ℕ) (e v : ℕ) (vt : Valid n t) (lv : v < n) (le 
 
   pub leaf-side : (i : ℕ) → i < nodes n → has (part n t e v) i ≡ eqb v i
   leaf-side i l =
-      part-is n t e v (far t e v) vt le (touch-joins t e v te) (2 ^ v) leaf-parts
+      part-is e v (far t e v) vt le (touch-joins t e v te) leaf-parts
       (has-pow v v ∙ eq-eqb v v refl) i l ∙ has-pow v i
 
   pub taxa-one : 2 ^ v ≡ part n t e v % 2 ^ n

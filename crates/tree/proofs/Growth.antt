@@ -17,13 +17,14 @@ use Rattle.taxa.proofs.Bools.{_⊕_, xor-twice, xor-same, xor-move, xor-not}
 use Rattle.taxa.proofs.Sets.{has-and, has-less, has-pow, has-none, has-below, sub-inside, sub-less}
 use Rattle.taxa.proofs.Sets.{sub-lt, some-has, some-zero, some-false, some-lowest}
 use Rattle.taxa.proofs.Sizes.{sub-refl}
-use Rattle.tree.specs.Tree.{lo, rows, part, Valid}
+use Rattle.tree.specs.Tree.{Valid}
 use Rattle.tree.specs.Lists.{mem}
 use Rattle.tree.specs.Splits.{side, meets, split, splits}
 use Rattle.tree.proofs.Colourings.{row-parts, valid-table, never-cross}
 use Rattle.tree.proofs.Choices.{Like}
-use Rattle.tree.proofs.SplitLaws.{num, side-has, num-of, split-eq, split-same, split-split}
-use Rattle.tree.proofs.SplitLaws.{no-split, some-meets, meets-some, kept-in, kept-out}
+use Rattle.tree.proofs.SplitLaws.{side-has, num-of, split-eq, split-same, split-split}
+use Rattle.tree.proofs.SplitLaws.{no-split, some-meets, meets-some, kept-in, KeptRow}
+use Rattle.tree.proofs.SplitLaws.{kept-out}
 use Rattle.tree.proofs.RowCounts.{leaf-row}
 use Rattle.tree.proofs.Forks.{leaf-parts}
 
@@ -105,15 +106,14 @@ kept-by n y s i j yi yj si sj = meets-some n y s (and-both (some (bitAnd s y)) (
 
 -- ---- a taxon's own split: x against all others
 -- where it is kept, it is on the list of every tree, by the row of the taxon
-pub leaf-in : (n : ℕ) (t : List ℕ) (y x : ℕ) → Valid n t → y < 2 ^ n → x < n
+pub leaf-in : {n : ℕ} {t : List ℕ} (y x : ℕ) → Valid n t → y < 2 ^ n → x < n
     → some (split n y (2 ^ x)) ≡ true
     → mem (split n y (2 ^ x)) (splits n t y) ≡ true
-leaf-in n t y x valid bound lt kept =
-    let w = leaf-row n t x valid lt in
-    let own = leaf-parts n t (w .0) x valid lt (w .1) (w .2) in
+leaf-in {n} {t} y x valid bound lt kept =
+    let w = leaf-row x valid lt in
+    let own = leaf-parts (w .0) x valid lt (w .1) (w .2) in
     kept-in n t y bound (split n y (2 ^ x)) (w .0) (w .1) kept
-    (sym (num-of n t (valid .big) (valid-table n t valid) y (w .0) (2 ^ x)
-    bound (w .1) own))
+    (sym (num-of (valid .big) (valid-table valid) y (w .0) (2 ^ x) bound (w .1) own))
 
 -- ---- Y and the taxon x, which is not in Y, make Y′
 pub record Grown (n : ℕ) (t : List ℕ) (Y Y′ x : ℕ) : Type 0 where
@@ -166,8 +166,8 @@ module _ (n : ℕ) (t : List ℕ) (Y Y′ x : ℕ) (G : Grown n t Y Y′ x) wher
   pub again : (z : ℕ) → mem z (splits n t Y′) ≡ true → split n Y′ z ≡ z
   again z h =
       let w = kept-out n t Y′ (G .bound′) z h in
-      ap (split n Y′) (w .3) ∙ split-split n Y′ Y′ (sub-refl Y′) (G .bound′) (side n t (w .0))
-      ∙ sym (w .3)
+      ap (split n Y′) (w .is) ∙ split-split n Y′ Y′ (sub-refl Y′) (G .bound′) (side n t (w .row))
+      ∙ sym (w .is)
 
   -- ---- x's own split: x against all others
   abbrev pub own : ℕ
@@ -176,7 +176,7 @@ module _ (n : ℕ) (t : List ℕ) (Y Y′ x : ℕ) (G : Grown n t Y Y′ x) wher
   -- it is kept where Y has a member, and nothing of it is left over Y
   pub own-in : (a : ℕ) → has Y a ≡ true → mem own (splits n t Y′) ≡ true
   own-in a p =
-      leaf-in n t Y′ x (G .valid) (G .bound′) (G .lt)
+      leaf-in Y′ x (G .valid) (G .bound′) (G .lt)
       (kept-by n Y′ (2 ^ x) x a in-new (in-old a p) (has-pow x x ∙ eq-eqb x x refl)
       (has-pow x a ∙ not-new a p))
 
@@ -189,20 +189,20 @@ module _ (n : ℕ) (t : List ℕ) (Y Y′ x : ℕ) (G : Grown n t Y Y′ x) wher
       → mem (split n Y z) (splits n t Y) ≡ true
   down z h d = go (either (some (split n Y z)))
     where
-      w : (r : ℕ) × (r < rows n) × (some z ≡ true) × (z ≡ num n t Y′ r)
+      w : KeptRow n t Y′ z
       w = kept-out n t Y′ (G .bound′) z h
 
       go : (some (split n Y z) ≡ true) ⊎ (some (split n Y z) ≡ false)
           → mem (split n Y z) (splits n t Y) ≡ true
-      go (inl p) = kept-in n t Y (G .bound) (split n Y z) (w .0) (w .1) p
-          (ap (split n Y) (w .3) ∙ cut (side n t (w .0)))
+      go (inl p) = kept-in n t Y (G .bound) (split n Y z) (w .row) (w .lt) p
+          (ap (split n Y) (w .is) ∙ cut (side n t (w .row)))
       go (inr p) = absurd (at (xor-or (has z x) (c .0)))
         where
           c : (b : Bool) × Like Y b z 0
           c = split-same n Y z 0 (some-false (split n Y z) p ∙ sym (split-none n Y (G .bound)))
 
           at : (has z x ≡ (c .0 ⊕ false)) ⊎ (has z x ≡ (c .0 ⊕ true)) → ⊥
-          at (inl q) = true≢false (sym (w .2) ∙ ap some (sym (again z h)
+          at (inl q) = true≢false (sym (w .kept) ∙ ap some (sym (again z h)
               ∙ grow-eq z 0 (c .0) (c .1) (q ∙ ap (λ (b : Bool). c .0 ⊕ b) (sym (has-none x)))
               ∙ split-none n Y′ (G .bound′)) ∙ some-zero)
           at (inr q) = d (sym (again z h) ∙ grow-eq z (2 ^ x) (c .0)
@@ -236,31 +236,30 @@ module _ (n : ℕ) (t : List ℕ) (Y Y′ x : ℕ) (G : Grown n t Y Y′ x) wher
   corner z u hz hu =
       let a = kept-out n t Y′ (G .bound′) z hz in
       let b = kept-out n t Y′ (G .bound′) u hu in
-      let tab = valid-table n t (G .valid) in
-      let k = never-cross n t (a .0) (b .0) (part n t (a .0) (lo t (a .0)))
-      (part n t (b .0) (lo t (b .0))) (G .valid) (a .1) (b .1)
-      (row-parts n t (G .valid .big) tab (a .0) (a .1))
-      (row-parts n t (G .valid .big) tab (b .0) (b .1)) in
-      let da = split-same n Y′ z (side n t (a .0)) (again z hz ∙ a .3) in
-      let db = split-same n Y′ u (side n t (b .0)) (again u hu ∙ b .3) in (
+      let tab = valid-table (G .valid) in
+      let k = never-cross (G .valid) (a .lt) (b .lt)
+      (row-parts (G .valid .big) tab (a .row) (a .lt))
+      (row-parts (G .valid .big) tab (b .row) (b .lt)) in
+      let da = split-same n Y′ z (side n t (a .row)) (again z hz ∙ a .is) in
+      let db = split-same n Y′ u (side n t (b .row)) (again u hu ∙ b .is) in (
         da .0 ⊕ k .0,
         db .0 ⊕ k .1,
         λ i y p q.
             let l : i < n = has-below n Y′ i (G .bound′) y in
             k .2 i (omega (arith, G .valid .big))
-            (sym (side-has n t (a .0) i l)
-            ∙ xor-inj (da .0) (has (side n t (a .0)) i) (k .0) (sym (da .1 i y) ∙ p))
-            (sym (side-has n t (b .0) i l)
-            ∙ xor-inj (db .0) (has (side n t (b .0)) i) (k .1) (sym (db .1 i y) ∙ q)),
+            (sym (side-has n t (a .row) i l)
+            ∙ xor-inj (da .0) (has (side n t (a .row)) i) (k .0) (sym (da .1 i y) ∙ p))
+            (sym (side-has n t (b .row) i l)
+            ∙ xor-inj (db .0) (has (side n t (b .row)) i) (k .1) (sym (db .1 i y) ∙ q)),
       )
 
   -- ---- of all splits over Y one at most has two lifts
 
   -- of two lifts of one split each has x on another side
-  seats : (z₀ z₁ : ℕ) → Twice n t Y Y′ z₀ z₁ → (p : Bool)
+  seats : {z₀ z₁ : ℕ} → Twice n t Y Y′ z₀ z₁ → (p : Bool)
       → (z : ℕ) × (d : Bool) × (mem z (splits n t Y′) ≡ true)
       × ((i : ℕ) → has Y i ≡ true → has z₀ i ≡ (d ⊕ has z i)) × ((d ⊕ has z x) ≡ p)
-  seats z₀ z₁ T p = go (eq-or (has z₀ x) p)
+  seats {z₀} {z₁} T p = go (eq-or (has z₀ x) p)
     where
       go : (has z₀ x ≡ p) ⊎ (has z₀ x ≡ not p)
           → (z : ℕ) × (d : Bool) × (mem z (splits n t Y′) ≡ true)
@@ -276,11 +275,11 @@ module _ (n : ℕ) (t : List ℕ) (Y Y′ x : ℕ) (G : Grown n t Y Y′ x) wher
   Free z u p q = (i : ℕ) → has Y i ≡ true → has z i ≡ p → has u i ≡ q → ⊥
 
   -- for each seat of x there is another corner that is empty
-  free-at : (z₀ z₁ u₀ u₁ : ℕ) → Twice n t Y Y′ z₀ z₁ → Twice n t Y Y′ u₀ u₁ → (p q : Bool)
+  free-at : {z₀ z₁ u₀ u₁ : ℕ} → Twice n t Y Y′ z₀ z₁ → Twice n t Y Y′ u₀ u₁ → (p q : Bool)
       → (p′ q′ : Bool) × (p′ ≡ p → q′ ≡ q → ⊥) × Free z₀ u₀ p′ q′
-  free-at z₀ z₁ u₀ u₁ T U p q =
-      let a = seats z₀ z₁ T p in
-      let b = seats u₀ u₁ U q in
+  free-at T U p q =
+      let a = seats T p in
+      let b = seats U q in
       let k = corner (a .0) (b .0) (a .2) (b .2) in (
         a .1 ⊕ k .0,
         b .1 ⊕ k .1,
@@ -320,9 +319,9 @@ module _ (n : ℕ) (t : List ℕ) (Y Y′ x : ℕ) (G : Grown n t Y Y′ x) wher
           (λ a b. F′ i y (a ∙ sym e) (b ∙ sym f)))
 
   -- two splits with two lifts each are one and the same
-  pub meet-one : (z₀ z₁ u₀ u₁ : ℕ) → Twice n t Y Y′ z₀ z₁ → Twice n t Y Y′ u₀ u₁
+  pub meet-one : {z₀ z₁ u₀ u₁ : ℕ} → Twice n t Y Y′ z₀ z₁ → Twice n t Y Y′ u₀ u₁
       → split n Y z₀ ≡ split n Y u₀
-  meet-one z₀ z₁ u₀ u₁ T U =
-      let a = free-at z₀ z₁ u₀ u₁ T U true true in
-      let b = free-at z₀ z₁ u₀ u₁ T U (a .0) (a .1) in
+  meet-one {z₀} {z₁} {u₀} T U =
+      let a = free-at T U true true in
+      let b = free-at T U (a .0) (a .1) in
       pinned z₀ u₀ (a .0) (a .1) (b .0) (b .1) (T .kept) (U .kept) (b .2) (a .3) (b .3)

@@ -111,7 +111,7 @@ lt-joins t r u v k (inl j) a b = (omega (arith, j .0, j .1), omega (arith, j .0,
 lt-joins t r u v k (inr j) a b = (omega (arith, j .0, j .1), omega (arith, j .0, j .1))
 
 -- ---- the same in a valid table
-module _ (n : ℕ) (t : List ℕ) (r : ℕ) (vt : Valid n t) (lr : r < rows n) where
+module _ {n : ℕ} {t : List ℕ} (r : ℕ) (vt : Valid n t) (lr : r < rows n) where
   pub far-lo : far t r (lo t r) ≡ hi t r
   far-lo = far-is t r (lo t r) (hi t r) (inl (refl, refl)) (λ d. omega (arith, vt .order r lr .0))
 

@@ -19,13 +19,14 @@ use Rattle.taxa.proofs.Bools.{either, and-left, and-right, or-cases, or-left, o
 use Rattle.taxa.proofs.Bools.{and-false-r}
 use Rattle.taxa.proofs.Sets.{has-mod, ext, some-zero}
 use Rattle.taxa.proofs.Sizes.{size-pos}
-use Rattle.tree.specs.Tree.{rows, Valid}
+use Rattle.tree.specs.Tree.{Valid}
 use Rattle.tree.specs.Lists.{mem, lacks}
 use Rattle.tree.specs.Splits.{side, split, splits, members}
 use Rattle.tree.proofs.Lists.{Distinct, asc-distinct, lacks-le′, lacks-nil, lacks-none}
 use Rattle.tree.proofs.Lists.{none-lacks}
 use Rattle.tree.proofs.Choices.{meets-mono}
-use Rattle.tree.proofs.SplitLaws.{num, meets-some, some-meets, kept-in, kept-out, splits-asc}
+use Rattle.tree.proofs.SplitLaws.{num, meets-some, some-meets, kept-in, KeptRow, kept-out}
+use Rattle.tree.proofs.SplitLaws.{splits-asc}
 use Rattle.tree.proofs.ListCounts.{Left, lacks-cons, lacks-inj}
 use Rattle.tree.proofs.Growth.{Grown, Twice, both-sides, sub, own, own-in, own-cut, cut}
 use Rattle.tree.proofs.Growth.{again, down, two-lifts, meet-one}
@@ -99,14 +100,14 @@ few-none n t y b one = sym (lacks-nil (splits n t y))
     bad : (z : ℕ) → mem z (splits n t y) ≡ true → ⊥
     bad z h =
         let w = kept-out n t y b z h in
-        let s = side n t (w .0) in
-        let k : some (split n y s) ≡ true = ap some (sym (w .3)) ∙ w .2 in
+        let s = side n t (w .row) in
+        let k : some (split n y s) ≡ true = ap some (sym (w .is)) ∙ w .kept in
         let i = both-sides n y s b k true in
         let j = both-sides n y s b k false in
         true≢false (sym (i .2) ∙ ap (has s) (one (i .0) (j .0) (i .1) (j .1)) ∙ j .2)
 
 -- ---- one taxon more
-module _ (n : ℕ) (t : List ℕ) (Y Y′ x : ℕ) (G : Grown n t Y Y′ x) where
+module _ {n : ℕ} {t : List ℕ} {Y Y′ x : ℕ} (G : Grown n t Y Y′ x) where
   dis : Distinct (splits n t Y′)
   dis = asc-distinct (splits n t Y′) (splits-asc n t Y′)
 
@@ -132,7 +133,7 @@ module _ (n : ℕ) (t : List ℕ) (Y Y′ x : ℕ) (G : Grown n t Y Y′ x) wher
 
   -- z₁ and x's own are two splits more, where z₀ and z₁ are two lifts of one
   -- split
-  module _ (a : ℕ) (ya : has Y a ≡ true) (z₀ z₁ : ℕ) (T : Twice n t Y Y′ z₀ z₁) where
+  module _ (a : ℕ) (ya : has Y a ≡ true) {z₀ z₁ : ℕ} (T : Twice n t Y Y′ z₀ z₁) where
     besides : List ℕ
     besides = mine ∷ z₁ ∷ []
 
@@ -161,17 +162,17 @@ module _ (n : ℕ) (t : List ℕ) (Y Y′ x : ℕ) (G : Grown n t Y Y′ x) wher
         × (mem z besides ≡ false) × (split n Y z ≡ w)
     lift w h = go (either (eqb z z₁))
       where
-        r : (r : ℕ) × (r < rows n) × (some w ≡ true) × (w ≡ num n t Y r)
+        r : KeptRow n t Y w
         r = kept-out n t Y (G .bound) w h
 
         z : ℕ
-        z = num n t Y′ (r .0)
+        z = num n t Y′ (r .row)
 
         back : split n Y z ≡ w
-        back = cut n t Y Y′ x G (side n t (r .0)) ∙ sym (r .3)
+        back = cut n t Y Y′ x G (side n t (r .row)) ∙ sym (r .is)
 
         kept : some (split n Y z) ≡ true
-        kept = ap some back ∙ r .2
+        kept = ap some back ∙ r .kept
 
         go : (eqb z z₁ ≡ true) ⊎ (eqb z z₁ ≡ false) → (z : ℕ) × (mem z (splits n t Y′) ≡ true)
             × (mem z besides ≡ false) × (split n Y z ≡ w)
@@ -183,15 +184,15 @@ module _ (n : ℕ) (t : List ℕ) (Y Y′ x : ℕ) (G : Grown n t Y Y′ x) wher
         )
         go (inr q) = (
           z,
-          kept-in n t Y′ (G .bound′) z (r .0) (r .1) up refl,
+          kept-in n t Y′ (G .bound′) z (r .row) (r .lt) up refl,
           free-of z (not-mine z kept) (eqb-false z z₁ q),
           back,
         )
           where
             up : some z ≡ true
-            up = meets-some n Y′ (side n t (r .0))
-                (meets-mono Y Y′ (side n t (r .0)) (sub n t Y Y′ x G)
-                (some-meets n Y (side n t (r .0)) (G .bound) (ap some (sym (r .3)) ∙ r .2)))
+            up = meets-some n Y′ (side n t (r .row))
+                (meets-mono Y Y′ (side n t (r .row)) (sub n t Y Y′ x G)
+                (some-meets n Y (side n t (r .row)) (G .bound) (ap some (sym (r .is)) ∙ r .kept)))
 
     -- and no two besides
     one-lift : (z z′ : ℕ) → Left (splits n t Y′) besides z → Left (splits n t Y′) besides z′
@@ -213,11 +214,11 @@ module _ (n : ℕ) (t : List ℕ) (Y Y′ x : ℕ) (G : Grown n t Y Y′ x) wher
               in₁ = l′ .there;
               same = e;
               kept = kept-out n t Y (G .bound) (split n Y z)
-                  (down n t Y Y′ x G z (l .there) (o .0)) .2;
+                  (down n t Y Y′ x G z (l .there) (o .0)) .kept;
               apart = eqb-false z z′ q;
             } in
             let one : split n Y z₁ ≡ split n Y z =
-            sym (T .same) ∙ meet-one n t Y Y′ x G z₀ z₁ z z′ T U in
+            sym (T .same) ∙ meet-one n t Y Y′ x G T U in
             let a₁ = again n t Y Y′ x G z₁ (T .in₁) in
             let a = again n t Y Y′ x G z (l .there) in
             let a′ = again n t Y Y′ x G z′ (l′ .there) in
@@ -246,8 +247,8 @@ module _ (n : ℕ) (t : List ℕ) (Y Y′ x : ℕ) (G : Grown n t Y Y′ x) wher
   grow-two : (a b : ℕ) → has Y a ≡ true → has Y b ≡ true → (a ≡ b → ⊥)
       → length (splits n t Y′) ≡ length (splits n t Y) + 2
   grow-two a b ya yb ab =
-      let w = found n t Y Y′ x G a b ya yb ab in
-      grow-more a ya (w .0) (w .1) (w .2)
+      let w = found G a b ya yb ab in
+      grow-more a ya (w .2)
 
 -- ---- taxon by taxon
 ltb-step : (i k : ℕ) → (k ≡ i → ⊥) → ltb i (suc k) ≡ ltb i k
@@ -257,7 +258,7 @@ ltb-step i k d = go (either (ltb i k))
     go (inl q) = lt-ltb i (suc k) (omega (arith, ltb-true i k q)) ∙ sym q
     go (inr q) = le-ltb i (suc k) (lib.Arith.lt-of-le-ne (ltb-false i k q) d) ∙ sym q
 
-module _ (n : ℕ) (t : List ℕ) (y : ℕ) (vt : Valid n t) where
+module _ {n : ℕ} {t : List ℕ} (y : ℕ) (vt : Valid n t) where
   -- the members of y below k
   low : ℕ → ℕ
   low k = y % 2 ^ k
@@ -342,18 +343,18 @@ module _ (n : ℕ) (t : List ℕ) (y : ℕ) (vt : Valid n t) where
                   last (inr q) = eqb-true k i q
           at (suc zero) w l =
               let u = find k y (omega arith) in
-              grow-one n t (low k) (low (suc k)) k G (u .0) (low-in k (u .0) (u .1) (u .2)) l
+              grow-one G (u .0) (low-in k (u .0) (u .1) (u .2)) l
           at (suc (suc m)) w l =
               let u = find-two k y (omega arith) in
-              grow-two n t (low k) (low (suc k)) k G (u .a) (u .b)
+              grow-two G (u .a) (u .b)
               (low-in k (u .a) (u .a-lt) (u .in-a)) (low-in k (u .b) (u .b-lt) (u .in-b))
               (u .ab)
               ∙ omega arith
 
 -- ---- the number of splits
-pub members-count : (n : ℕ) (t : List ℕ) (y : ℕ) → Valid n t → y < 2 ^ n
+pub members-count : {n : ℕ} {t : List ℕ} (y : ℕ) → Valid n t → y < 2 ^ n
     → length (splits n t y) ≡ members (size n y)
 unfolding low
-members-count n t y vt b =
-    ap (λ (s : ℕ). length (splits n t s)) (sym (mod-eq-of-lt b)) ∙ stage n t y vt n (le-refl n)
+members-count {n} {t} y vt b =
+    ap (λ (s : ℕ). length (splits n t s)) (sym (mod-eq-of-lt b)) ∙ stage y vt n (le-refl n)
     ∙ sym (members-is (size n y))

@@ -91,9 +91,9 @@ module _ (E : Edition) (n : ℕ) (b : List ℕ) (a : AcceptedOf E n b) where
 
 -- The checks 1 to 5 refuse nothing exactly where the table has its length and
 -- is valid, with no more taxa than the most.
-pub accepted-iffOf : (E : Edition) → Sized E → (n : ℕ) (b : List ℕ)
+pub accepted-iffOf : {E : Edition} → Sized E → (n : ℕ) (b : List ℕ)
     → (treeSaidOf E n b ≡ gives tt) ↔ AcceptedOf E n b
-accepted-iffOf E sized n b = (
+accepted-iffOf {E} sized n b = (
   λ h. pass-acceptedOf E sized n b (gives-pass (treeChecksOf E n b) tt tt h),
   λ a. judged-all (treeChecksOf E n b) tt (accepted-passOf E n b a),
 )
@@ -109,7 +109,7 @@ pub accepted-pass : (n : ℕ) (t : List ℕ) → Accepted n t → Pass (treeChec
 accepted-pass = accepted-passOf narrow
 
 pub accepted-iff : (n : ℕ) (t : List ℕ) → (treeSaid n t ≡ gives tt) ↔ Accepted n t
-accepted-iff = accepted-iffOf narrow narrow-sized
+accepted-iff = accepted-iffOf narrow-sized
 
 -- A valid table of no more taxa than the most is accepted.
 pub valid-accepted : {n : ℕ} {t : List ℕ} → n ≤ narrow .taxa → Valid n t → Accepted n t

@@ -50,7 +50,7 @@ pub record Along (t : List ℕ) (e m : ℕ) (P : ℕ → Type 0) : Type 0 where
   pub there : (r : ℕ) → r < m → (r ≡ e → ⊥) → P (lo t r) → P (hi t r)
   pub back : (r : ℕ) → r < m → (r ≡ e → ⊥) → P (hi t r) → P (lo t r)
 
-module _ (t : List ℕ) (e m : ℕ) (P : ℕ → Type 0) (along : Along t e m P) where
+module _ {t : List ℕ} {e m : ℕ} {P : ℕ → Type 0} (along : Along t e m P) where
   round-each : (k : ℕ) → k ≤ m → (s : ℕ) → Each P s → Each P (round t e k s)
   unfolding round
   round-each zero h s each = each
@@ -67,12 +67,11 @@ module _ (t : List ℕ) (e m : ℕ) (P : ℕ → Type 0) (along : Along t e m P)
   rounds-each zero s each = each
   rounds-each (suc j) s each = round-each m (le-refl m) (rounds t e m j s) (rounds-each j s each)
 
-pub part-each : (n : ℕ) (t : List ℕ) (e v : ℕ) (P : ℕ → Type 0) → Along t e (rows n) P → P v
+pub part-each : (n : ℕ) {t : List ℕ} (e v : ℕ) {P : ℕ → Type 0} → Along t e (rows n) P → P v
     → Each P (part n t e v)
 unfolding part
-part-each n t e v P along pv =
-    rounds-each t e (rows n) P along (nodes n) (2 ^ v)
-    (λ i p. subst P (eqb-true v i (sym (has-pow v i) ∙ p)) pv)
+part-each n e v {P} along pv =
+    rounds-each along (nodes n) (2 ^ v) (λ i p. subst P (eqb-true v i (sym (has-pow v i) ∙ p)) pv)
 
 -- ---- the same for a colouring: rows below m other than e join nodes of one colour
 abbrev pub Flat : List ℕ → ℕ → ℕ → (ℕ → Bool) → Type 0
@@ -81,7 +80,7 @@ Flat t e m c = (r : ℕ) → r < m → (r ≡ e → ⊥) → c (lo t r) ≡ c (h
 pub part-one : (n : ℕ) (t : List ℕ) (e v : ℕ) (c : ℕ → Bool) → Flat t e (rows n) c
     → Each (λ i. c i ≡ c v) (part n t e v)
 part-one n t e v c flat =
-    part-each n t e v (λ i. c i ≡ c v)
+    part-each n e v
     (record { there = λ r h d p. sym (flat r h d) ∙ p; back = λ r h d p. flat r h d ∙ p }) refl
 
 -- ---- a round only adds
@@ -232,21 +231,21 @@ part-flat n t e v ends h =
     (size-pos (nodes n) (2 ^ v) v h (has-pow v v ∙ eq-eqb v v refl)))
 
 -- ---- the rounds reach exactly the nodes that a chain of rows joins
-chain-in : (n : ℕ) (t : List ℕ) (e u : ℕ) → Ends t (rows n) (nodes n) → u < nodes n → (w : ℕ)
+chain-in : {n : ℕ} {t : List ℕ} {e u : ℕ} → Ends t (rows n) (nodes n) → u < nodes n → (w : ℕ)
     → Chain n t e u w → has (part n t e u) w ≡ true
-chain-in n t e u ends h w stay = part-start n t e u
-chain-in n t e u ends h w (up {v = v} r l d a b c) =
+chain-in {n} {t} {e} {u} ends h w stay = part-start n t e u
+chain-in {n} {t} {e} {u} ends h w (up {v = v} r l d a b c) =
     ap (has (part n t e u)) (sym b) ∙ sym (part-flat n t e u ends h r l d)
-    ∙ ap (has (part n t e u)) a ∙ chain-in n t e u ends h v c
-chain-in n t e u ends h w (down {w = x} r l d a b c) =
+    ∙ ap (has (part n t e u)) a ∙ chain-in ends h v c
+chain-in {n} {t} {e} {u} ends h w (down {w = x} r l d a b c) =
     ap (has (part n t e u)) (sym a) ∙ part-flat n t e u ends h r l d ∙ ap (has (part n t e u)) b
-    ∙ chain-in n t e u ends h x c
+    ∙ chain-in ends h x c
 
 pub reach-chain : (n : ℕ) (t : List ℕ) (e u w : ℕ) → Ends t (rows n) (nodes n) → u < nodes n
     → (has (part n t e u) w ≡ true) ↔ Chain n t e u w
 reach-chain n t e u w ends h = (
-  part-each n t e u (λ i. Chain n t e u i)
+  part-each n {t = t} e u {P = λ i. Chain n t e u i}
       (record { there = λ r l d c. up r l d refl refl c; back = λ r l d c. down r l d refl refl c })
       stay w,
-  chain-in n t e u ends h w,
+  chain-in ends h w,
 )

@@ -175,9 +175,9 @@ pub record Pair (n : ℕ) (t : List ℕ) (a p f g : ℕ) : Type 0 where
   pub only : (r : ℕ) → r < rows n → (r ≡ a → ⊥) → (r ≡ f → ⊥) → (r ≡ g → ⊥) → touches t r p ≡ true
       → ⊥
 
-pub pair : (n : ℕ) (t : List ℕ) (a p : ℕ) → Valid n t → a < rows n → touches t a p ≡ true → n ≤ p
+pub pair : {n : ℕ} {t : List ℕ} (a p : ℕ) → Valid n t → a < rows n → touches t a p ≡ true → n ≤ p
     → p < nodes n → (f g : ℕ) × Pair n t a p f g
-pair n t a p v ha ta ip lp =
+pair {n} {t} a p v ha ta ip lp =
     let P : ℕ → Bool = λ r. touches t r p in
     let two : count (but P a) (rows n) ≡ 2 =
     omega (arith, count-drop P a (rows n) ta ha, v .inner p ip lp) in
@@ -210,9 +210,9 @@ pair n t a p v ha ta ip lp =
     )
 
 -- ---- a taxon's row is its only one
-pub leaf-only : (n : ℕ) (t : List ℕ) (v e : ℕ) → Valid n t → v < n → e < rows n
+pub leaf-only : {n : ℕ} {t : List ℕ} (v e : ℕ) → Valid n t → v < n → e < rows n
     → touches t e v ≡ true → (r : ℕ) → r < rows n → touches t r v ≡ true → r ≡ e
-leaf-only n t v e vt lv le te r lr tr = go (either (eqb r e))
+leaf-only {n} {t} v e vt lv le te r lr tr = go (either (eqb r e))
   where
     P : ℕ → Bool
     P j = touches t j v
@@ -224,9 +224,9 @@ leaf-only n t v e vt lv le te r lr tr = go (either (eqb r e))
         (omega (arith, count-drop P e (rows n) te le, vt .leaf v lv)) r lr
         (but-other P e r (eqb-false r e q) ∙ tr))
 
-pub leaf-row : (n : ℕ) (t : List ℕ) (v : ℕ) → Valid n t → v < n
+pub leaf-row : {n : ℕ} {t : List ℕ} (v : ℕ) → Valid n t → v < n
     → (r : ℕ) × (r < rows n) × (touches t r v ≡ true)
-leaf-row n t v vt lv = count-find (λ r. touches t r v) (rows n) (omega (arith, vt .leaf v lv))
+leaf-row {n} {t} v vt lv = count-find (λ r. touches t r v) (rows n) (omega (arith, vt .leaf v lv))
 
 -- ---- a row whose ends differ is at a node as often as its ends are that node
 pub touch-tally : (t : List ℕ) (r v : ℕ) → (lo t r ≡ hi t r → ⊥)
@@ -272,10 +272,10 @@ count-less P Q k i h l p q =
     omega (arith, count-drop Q i k q l)
 
 -- the two others, from their list
-pub pair-of : (n : ℕ) (t : List ℕ) (a p f g : ℕ) → Valid n t → a < rows n → touches t a p ≡ true
+pub pair-of : {n : ℕ} {t : List ℕ} (a p f g : ℕ) → Valid n t → a < rows n → touches t a p ≡ true
     → n ≤ p → p < nodes n → others t a p (rows n) ≡ f ∷ g ∷ [] → Pair n t a p f g
-pair-of n t a p f g v ha ta ip lp list =
-    let w = pair n t a p v ha ta ip lp in
+pair-of {n} {t} a p f g v ha ta ip lp list =
+    let w = pair a p v ha ta ip lp in
     let q = sym list ∙ w .2 .list in
     let ef : f ≡ w .0 = head-eq-of-cons-eq q in
     let eg : g ≡ w .1 = cc in

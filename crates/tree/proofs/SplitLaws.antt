@@ -90,16 +90,22 @@ side-has n t r i h =
     has-mod n (part n t r (lo t r)) i
     ∙ and-true-l (ltb i n) (has (part n t r (lo t r)) i) (lt-ltb i n h)
 
-pub num-of : (n : ℕ) (t : List ℕ) → 4 ≤ n → Table n t → (y r s : ℕ) → y < 2 ^ n
+pub num-of : {n : ℕ} {t : List ℕ} → 4 ≤ n → Table n t → (y r s : ℕ) → y < 2 ^ n
     → r < rows n → Parts n t r s → num n t y r ≡ split n y s
-num-of n t big tab y r s bound h p =
-    let u = parts-unique n t r (part n t r (lo t r)) s (tab .connected) big
-    (row-parts n t big tab r h) p in
+num-of {n} {t} big tab y r s bound h p =
+    let u = parts-unique (tab .connected) big (row-parts big tab r h) p in
     split-eq n y (side n t r) s bound (u .0) (λ i q.
     let l : i < n = has-below n y i bound q in
     side-has n t r i l ∙ u .1 i (omega arith))
 
 -- ---- members of the list, by rows
+-- a row whose split over y is x
+pub record KeptRow (n : ℕ) (t : List ℕ) (y x : ℕ) : Type 0 where
+  pub row : ℕ
+  pub lt : row < rows n
+  pub kept : some x ≡ true
+  pub is : x ≡ num n t y row
+
 module _ (n : ℕ) (t : List ℕ) (y : ℕ) (bound : y < 2 ^ n) where
   pub kept-in : (x r : ℕ) → r < rows n → some x ≡ true → x ≡ num n t y r
       → mem x (splits n t y) ≡ true
@@ -108,11 +114,15 @@ module _ (n : ℕ) (t : List ℕ) (y : ℕ) (bound : y < 2 ^ n) where
       ∙ into flips n t y r h
       (some-meets n y (side n t r) bound (ap some (sym e) ∙ p))
 
-  pub kept-out : (x : ℕ) → mem x (splits n t y) ≡ true
-      → (r : ℕ) × (r < rows n) × (some x ≡ true) × (x ≡ num n t y r)
+  pub kept-out : (x : ℕ) → mem x (splits n t y) ≡ true → KeptRow n t y x
   kept-out x h =
       let w = out-of flips n t y x h in
-      (w .0, w .1, ap some (w .3) ∙ meets-some n y (side n t (w .0)) (w .2), w .3)
+      record {
+        row = w .0;
+        lt = w .1;
+        kept = ap some (w .3) ∙ meets-some n y (side n t (w .0)) (w .2);
+        is = w .3;
+      }
 
 pub splits-asc : (n : ℕ) (t : List ℕ) (y : ℕ) → Asc (splits n t y)
 splits-asc = asc-by flips
@@ -121,4 +131,4 @@ splits-asc = asc-by flips
 pub zero-never : (n : ℕ) (t : List ℕ) (y : ℕ) → y < 2 ^ n
     → mem 0 (splits n t y) ≡ true → ⊥
 zero-never n t y bound h =
-    true≢false (sym (kept-out n t y bound 0 h .2) ∙ some-zero)
+    true≢false (sym (kept-out n t y bound 0 h .kept) ∙ some-zero)

@@ -2,12 +2,11 @@
 // number that matters first. The first letter of a case tells the call.
 mod trees;
 
-use case_lines::first;
 use case_lines::head;
 use case_lines::size;
 use case_lines::word;
 use case_lists::LONG;
-use case_lists::bytes;
+use case_lists::given;
 
 // Runs a case on its table.
 fn call(input: &[u8], l: &[u8], t: &[u8]) {
@@ -23,8 +22,7 @@ fn call(input: &[u8], l: &[u8], t: &[u8]) {
 // Runs the case in a line.
 fn case(input: &[u8], l: &[u8]) {
     let mut t = [0u8; LONG];
-    let long = bytes(input, word(l, 2), &mut t);
-    call(input, l, first(&t, long));
+    call(input, l, given(input, word(l, 2), &mut t));
 }
 
 // Runs the cases in their order.
@@ -43,6 +41,5 @@ fn run(input: &[u8]) {
 // Reads the cases and runs them.
 fn main() {
     let mut input = io::large_buffer();
-    let got = case_lines::read(&mut input);
-    run(first(&input, got));
+    run(case_lines::read(&mut input));
 }

@@ -1,5 +1,4 @@
 // Cases of the check, of induced splits and of a comparison.
-use case_lines::first;
 use case_lines::number;
 use case_lines::piece;
 use case_lines::size;
@@ -8,8 +7,9 @@ use case_lines::word;
 use case_lists::LONG;
 use case_lists::MARK;
 use case_lists::ROOM;
-use case_lists::bytes;
 use case_lists::firsts;
+use case_lists::firsts_mut;
+use case_lists::given;
 use case_prints::line;
 use case_prints::numbers;
 use case_prints::say;
@@ -57,11 +57,8 @@ fn list(l: &[u8], n: usize, t: &[u8], out: &mut [u64]) {
 
 // A case `splits TAXA TABLE PARTITION ROOM SHOWN TITLE|TITLE`.
 pub fn splits(l: &[u8], n: usize, t: &[u8]) {
-    let room = size(l, 4);
     let mut out = [MARK; ROOM];
-    if room <= ROOM {
-        list(l, n, t, &mut out[..room]);
-    }
+    list(l, n, t, firsts_mut(&mut out, size(l, 4)));
 }
 
 // Says a distance and the missing split, or the refusal.
@@ -78,8 +75,8 @@ fn tell_compare(answer: Compared) {
 // A case `compare TAXA TABLE TABLE PARTITION TITLE`.
 pub fn compare(input: &[u8], l: &[u8], n: usize, t: &[u8]) {
     let mut u = [0u8; LONG];
-    let long = bytes(input, word(l, 3), &mut u);
+    let other = given(input, word(l, 3), &mut u);
     let y = number(word(l, 4));
-    tell_compare(splits::compare(n, t, first(&u, long), y));
+    tell_compare(splits::compare(n, t, other, y));
     line(title(l, 5));
 }

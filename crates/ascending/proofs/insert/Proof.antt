@@ -1,94 +1,53 @@
 -- `ascending::insert` meets its contract: x stands at its place already, or a
 -- place is opened for it. Assumes nothing.
-use mathlib.Core.Path.{ap, _∙_}
-use mathlib.Core.List.{List}
 use mathlib.Core.Logic.{⊎-elim}
-use Prim.Native.Nat.{ℕ}
 use native.Mathlib.Omega.{arith}
-use lib.ListN.{set}
 use borrow.Author.Needs.{needs}
-use Rattle.ascending.proofs.Insertion.{Opened, opened, there}
+use Rattle.ascending.proofs.Insertion.{Placed, Opened, opened, there}
 use Rattle.ascending.proofs.insert.Statement.{statement}
 use Rattle.ascending.proofs.insert.Tie as tie
-use Rattle.ascending.proofs.insert.Reads as reads
-use Rattle.ascending.proofs.insert.Lts as lts
-use Rattle.ascending.proofs.open_gap.Reads as open-gap-reads
-use Rattle.ascending.proofs.place.Reads as place-reads
+
+-- past the first call the place of x is known
+abbrev entry : tie.After-place → tie.Start
+entry c = c .before .before .before
+
+placed : (c : tie.After-place) → let a = entry c .args in
+    Placed (a .x) (a .out .now) (a .len) (c .place .result)
+placed c = record { fits = entry c .pre .0; place = c .place .ensures }
 
 -- where a place is opened, x does not stand there
-opens : (c : lts.Joined1 (
-  place-reads.Asked,
-  place-reads.Learnt,
-  open-gap-reads.Asked,
-  open-gap-reads.Learnt,
-) reads.Pre reads.Post)
-    → let st = c .before .before .before .before in
-    Opened (st .args .x) (st .args .out .now) (st .args .len) (c .before .place .result)
+opens : (c : tie.Joined1) → let a = entry (c .before) .args in
+    Opened (a .x) (a .out .now) (a .len) (c .before .place .result)
 opens c =
-    let st = c .before .before .before .before in
-    opened (st .args .x) (st .args .out .now) (st .args .len) (st .pre .0)
-    (c .before .place .result) (c .before .place .ensures)
-    (λ h e. ⊎-elim (λ w. omega arith) (λ w. omega arith) (c .if1 .came)) (st .pre .1)
+    opened (placed (c .before))
+    (λ h e. ⊎-elim (λ w. omega arith) (λ w. omega arith) (c .if1 .came)) (entry (c .before) .pre .1)
 
-place-requires : tie.Need-place-requires
-place-requires c κs = search needs
-
-mul-if2 : tie.Need-mul-if2
-mul-if2 c = search needs
-
-slice-read-if2 : tie.Need-slice-read-if2
-slice-read-if2 c = search needs
-
-same-length : tie.Need-same-length
-same-length c = search needs
+abbrev opening : tie.After-slice-known3 → tie.Joined1
+opening c = c .before .before .before .before
 
 returns : tie.Need-returns
 returns c =
-    let at-if1 = c .before .before in
-    let at-place = at-if1 .before in
-    let st = at-place .before .before .before in
-    let a = st .args in
-    there (a .x) (a .out .now) (a .len) (st .pre .0) _ (at-place .place .ensures)
-    (at-if1 .if1 .taken) (c .if2 .taken)
+    let at = c .before .before in
+    there (placed (at .before)) (at .if1 .taken) (c .if2 .taken)
 
 open-gap-requires : tie.Need-open-gap-requires
 open-gap-requires c κs = let w = opens (c .before) in (w .low, w .room)
 
 mul-out : tie.Need-mul-out
 mul-out c =
-    let at-good = c .before .before .before .before .before .before .before .before in
-    let w = opens (c .before .before .before .before) in omega (arith, at-good .good)
+    let w = opens (opening c) in
+    omega (arith, entry (opening c .before) .good)
 
 slice-write-out : tie.Need-slice-write-out
-slice-write-out c = let w = opens (c .before .before .before .before) in omega arith
-
-add-result : tie.Need-add-result
-add-result c = search needs
-
-same-length-2 : tie.Need-same-length-2
-same-length-2 c = search needs
+slice-write-out c = let w = opens (opening c) in omega arith
 
 returns-2 : tie.Need-returns-2
 returns-2 c =
-    let at-place = c .before .before .before .before .before in
-    let st = at-place .before .before .before in
-    let w = opens (c .before .before .before .before) in
-    let put = ap (λ (l : List ℕ). set l (at-place .place .result) (st .args .x))
-    (c .before .before .open-gap .ensures) in
-    record { count = w .count; memory = put ∙ w .gives }
+    let w = opens (opening c) in
+    record { count = w .count; memory = rw (c .before .before .open-gap .ensures) (w .gives) }
 
 pub insert-spec : {M : Type 1} → statement M
 insert-spec =
-    tie.close
-    (tie.spec
-    place-requires
-    mul-if2
-    slice-read-if2
-    same-length
-    returns
-    open-gap-requires
-    mul-out
-    slice-write-out
-    add-result
-    same-length-2
-    returns-2)
+    tie.close (tie.spec (λ c κs. search needs) (λ c. search needs) (λ c. search needs)
+    (λ c. search needs) returns open-gap-requires mul-out slice-write-out (λ c. search needs)
+    (λ c. search needs) returns-2)

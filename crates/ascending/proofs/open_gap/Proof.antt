@@ -20,61 +20,23 @@ abbrev μ-loop : tie.MeasureT-loop
 loop-holds : tie.Need-loop-holds Inv-loop μ-loop
 loop-holds c = (search needs, search needs, refl, gap-none _ _)
 
-sub-y : tie.Need-sub-y Inv-loop μ-loop
-sub-y c = search needs
-
-mul-y : tie.Need-mul-y Inv-loop μ-loop
-mul-y c = search needs
-
-slice-read-y : tie.Need-slice-read-y Inv-loop μ-loop
-slice-read-y c = search needs
-
-mul-out : tie.Need-mul-out Inv-loop μ-loop
-mul-out c = search needs
-
-slice-write-out : tie.Need-slice-write-out Inv-loop μ-loop
-slice-write-out c = search needs
-
-sub-k : tie.Need-sub-k Inv-loop μ-loop
-sub-k c = search needs
-
-loop-less : tie.Need-loop-less Inv-loop μ-loop
-loop-less c = search needs
-
 loop-again : tie.Need-loop-again Inv-loop μ-loop
 loop-again c =
-    let st = c .before .before .before in
     let at = c .before .before in (
       search needs,
       search needs,
       simp length-set (at .loop .inv .2),
-      rw (at .loop .inv .3) (gap-down (st .args .out .now) (at .loop .k) (st .args .len)
-          (search needs) (search needs) (search needs)),
+      rw (at .loop .inv .3) (gap-down (at .before .args .out .now) (at .loop .k) _ (search needs)
+          (search needs) (search needs)),
     )
-
-same-length : tie.Need-same-length Inv-loop μ-loop
-same-length c = search needs
 
 returns : tie.Need-returns Inv-loop μ-loop
 returns c =
-    let at-loop = c .before in
-    let st = at-loop .before in
-    let e : at-loop .loop .k ≡ st .args .i = omega arith in rw e at (at-loop .loop .inv .3)
+    let e : c .before .loop .k ≡ c .before .before .args .i = omega arith in
+    rw e at (c .before .loop .inv .3)
 
 pub open-gap-spec : {M : Type 1} → statement M
 open-gap-spec =
-    tie.close
-    (tie.spec
-    Inv-loop
-    μ-loop
-    loop-holds
-    sub-y
-    mul-y
-    slice-read-y
-    mul-out
-    slice-write-out
-    sub-k
-    loop-less
-    loop-again
-    same-length
-    returns)
+    tie.close (tie.spec Inv-loop μ-loop loop-holds (λ c. search needs) (λ c. search needs)
+    (λ c. search needs) (λ c. search needs) (λ c. search needs) (λ c. search needs)
+    (λ c. search needs) loop-again (λ c. search needs) returns)

@@ -4,12 +4,10 @@ use Rattle.door.proofs.count_right.Statement.{statement}
 use Rattle.door.proofs.count_right.Tie as tie
 
 returns : tie.Need-returns
-returns c =
-    count-none (c .before .args .count) (c .if1 .taken)
+returns c = search count-none
 
 returns-2 : tie.Need-returns-2
-returns-2 c =
-    count-some (c .before .args .count) (c .if1 .left)
+returns-2 c = search count-some
 
 pub count-right-spec : {M : Type 1} → statement M
 count-right-spec = tie.close (tie.spec returns returns-2)

@@ -4,16 +4,10 @@ use Rattle.door.proofs.counted.Statement.{statement}
 use Rattle.door.proofs.counted.Tie as tie
 
 returns : tie.Need-returns
-returns c =
-    let st = c .before in
-    let a = st .args in
-    counted-low (a .n) (c .if1 .taken)
+returns c = search counted-low
 
 returns-2 : tie.Need-returns-2
-returns-2 c =
-    let st = c .before in
-    let a = st .args in
-    counted-high (a .n) (c .if1 .left)
+returns-2 c = search counted-high
 
 pub counted-spec : {M : Type 1} → statement M
 counted-spec = tie.close (tie.spec returns returns-2)

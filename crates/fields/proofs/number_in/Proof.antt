@@ -2,7 +2,7 @@
 use mathlib.Core.Path.{_≡_, _∙_, refl, ap}
 use Prim.Native.Nat.{ℕ, _+_, _-_, _^_, _<_, _≤_}
 use native.Mathlib.Omega.{arith}
-use lib.ListN.{take, drop}
+use lib.ListN.{getD, take, drop}
 use Rattle.fields.specs.Fields.{highFirst, numberIn}
 use Rattle.fields.proofs.FieldLaws.{next-byte, byte-below, eight-bytes}
 use borrow.Author.Needs.{needs}
@@ -17,90 +17,47 @@ abbrev μ-loop : tie.MeasureT-loop
 μ-loop job from y₀ i₀ y i =
     8 - i
 
+-- the place of the byte that a turn of the loop reads, and the byte
+abbrev place : tie.After-shared-slice-known Inv-loop μ-loop → ℕ
+place c = c .before .before .before .args .from + c .before .before .loop .i
+
+byte : (c : tie.After-shared-slice-known Inv-loop μ-loop)
+    → getD (c .before .before .before .args .job .now) (place c) 0 < 256
+byte c = omega (arith, c .shared-slice-known .given (place c))
+
 loop-holds : tie.Need-loop-holds Inv-loop μ-loop
 unfolding highFirst
-loop-holds c =
-    (omega arith, refl, omega arith)
+loop-holds c = (omega arith, refl, omega arith)
 
 mul-y : tie.Need-mul-y Inv-loop μ-loop
 mul-y c =
-    let at-loop = c .before in
-    omega (
-      arith,
-      eight-bytes (at-loop .loop .i) (at-loop .loop .y) 0 (c .loop-test .taken)
-          (at-loop .loop .inv .2) (omega arith),
-    )
-
-add-y : tie.Need-add-y Inv-loop μ-loop
-add-y c =
-    omega (arith, c .before .before .pre, c .loop-test .taken)
-
-shared-slice-read-y : tie.Need-shared-slice-read-y Inv-loop μ-loop
-shared-slice-read-y c = search needs
+    let l = c .before .loop in
+    omega (arith, eight-bytes {b = 0} (c .loop-test .taken) (l .inv .2) (omega arith))
 
 cast-y : tie.Need-cast-y Inv-loop μ-loop
-cast-y c =
-    let at-loop = c .before .before in
-    let st = at-loop .before in
-    omega (arith, c .shared-slice-known .given (st .args .from + at-loop .loop .i))
+cast-y c = omega (arith, byte c)
 
 add-y-2 : tie.Need-add-y-2 Inv-loop μ-loop
 add-y-2 c =
-    let at-loop-test = c .before in
-    let at-loop = at-loop-test .before in
-    let st = at-loop .before in
-    record {
-      fits = eight-bytes (at-loop .loop .i) (at-loop .loop .y) _
-          (at-loop-test .loop-test .taken) (at-loop .loop .inv .2)
-          (omega (arith, c .shared-slice-known .given (st .args .from + at-loop .loop .i)));
-    }
-
-add-i : tie.Need-add-i Inv-loop μ-loop
-add-i c = search needs
-
-loop-less : tie.Need-loop-less Inv-loop μ-loop
-loop-less c = search needs
+    let l = c .before .before .loop in
+    record { fits = eight-bytes (c .before .loop-test .taken) (l .inv .2) (byte c) }
 
 loop-again : tie.Need-loop-again Inv-loop μ-loop
 loop-again c =
-    let at-loop-test = c .before in
-    let at-loop = at-loop-test .before in
-    let st = at-loop .before in
-    let a = st .args in (
-      omega (arith, at-loop-test .loop-test .taken),
-      next-byte (a .job .now) (a .from)
-          (at-loop .loop .i) (at-loop .loop .y)
-          (omega (arith, st .pre, at-loop-test .loop-test .taken))
-          (at-loop .loop .inv .1),
-      byte-below (at-loop .loop .i) (at-loop .loop .y) _
-          (at-loop .loop .inv .2) (omega (
-            arith,
-            c .shared-slice-known .given
-                (a .from + at-loop .loop .i),
-          )),
+    let l = c .before .before .loop in
+    let a = c .before .before .before .args in (
+      search needs,
+      next-byte (a .job .now) (a .from) (l .i) (search needs) (l .inv .1),
+      byte-below (l .i) (l .inv .2) (byte c),
     )
 
 returns : tie.Need-returns Inv-loop μ-loop
 returns c =
-    let at-loop = c .before in
-    let st = at-loop .before in
-    let a = st .args in
-    let e : at-loop .loop .i ≡ 8 = omega (arith, at-loop .loop .inv .0, c .loop-test .left) in
-    at-loop .loop .inv .1 ∙ ap (λ (k : ℕ). numberIn (take k (drop (a .from) (a .job .now)))) e
+    let e : c .before .loop .i ≡ 8 = search needs in
+    let a = c .before .before .args in
+    c .before .loop .inv .1 ∙ ap (λ (k : ℕ). numberIn (take k (drop (a .from) (a .job .now)))) e
 
 pub number-in-spec : {M : Type 1} → statement M
 number-in-spec =
-    tie.close
-    (tie.spec
-    Inv-loop
-    μ-loop
-    loop-holds
-    mul-y
-    add-y
-    shared-slice-read-y
-    cast-y
-    add-y-2
-    add-i
-    loop-less
-    loop-again
-    returns)
+    tie.close (tie.spec Inv-loop μ-loop loop-holds mul-y (λ c. search needs) (λ c. search needs)
+    cast-y add-y-2 (λ c. search needs) (λ c. search needs) loop-again returns)

@@ -5,12 +5,9 @@ use borrow.Author.Needs.{needs}
 use Rattle.group_rule.proofs.meets.Statement.{statement}
 use Rattle.group_rule.proofs.meets.Tie as tie
 
-cast-result : tie.Need-cast-result
-cast-result c = search needs
-
 returns : tie.Need-returns
 unfolding some
 returns c = search needs
 
 pub meets-spec : {M : Type 1} → statement M
-meets-spec = tie.close (tie.spec cast-result returns)
+meets-spec = tie.close (tie.spec (λ c. search needs) returns)

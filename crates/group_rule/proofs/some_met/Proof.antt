@@ -1,87 +1,35 @@
--- `group_rule::some_met` meets its contract. The loop's invariant: the groups met
--- from place i on are all. Assumes nothing.
-use mathlib.Core.Path.{_≡_}
-use Prim.Native.Nat.{_-_, _≤_}
-use native.Mathlib.Omega.{arith}
-use lib.ListN.{length, drop}
-use borrow.Author.Tests.{eq-eqb, ne-eqb}
-use Rattle.moves.specs.Groups.{met}
-use Rattle.group_rule.proofs.Judging.{met-rest, met-end}
+-- `group_rule::some_met` meets its contract. The loop's invariant: none of the
+-- first i groups is met. Assumes nothing.
+use Prim.Native.Nat.{_-_}
+use lib.ListN.{length}
+use Rattle.group_rule.proofs.Judging.{Passed, passed-none, passed-missed, passed-end}
+use Rattle.group_rule.proofs.Judging.{met-some}
 use borrow.Author.Needs.{needs}
 use Rattle.group_rule.proofs.some_met.Statement.{statement}
 use Rattle.group_rule.proofs.some_met.Tie as tie
 
 abbrev Inv-loop : tie.InvT-loop
-Inv-loop gs y i₀ i = (i ≤ length gs) × (met y gs ≡ met y (drop i gs))
+Inv-loop gs y i₀ i = Passed y gs i 0
 
 abbrev μ-loop : tie.MeasureT-loop
 μ-loop gs y i₀ i = length gs - i
 
 loop-holds : tie.Need-loop-holds Inv-loop μ-loop
-loop-holds c = (search needs, omega arith)
-
-mul-meets : tie.Need-mul-meets Inv-loop μ-loop
-mul-meets c = search needs
-
-shared-slice-read-meets : tie.Need-shared-slice-read-meets Inv-loop μ-loop
-shared-slice-read-meets c = search needs
-
-meets-requires : tie.Need-meets-requires Inv-loop μ-loop
-meets-requires c κs = search needs
+loop-holds c = passed-none _ _
 
 returns : tie.Need-returns Inv-loop μ-loop
-returns c =
-    let at-meets = c .before in
-    let at-loop-test = at-meets .before .before in
-    let at-loop = at-loop-test .before in
-    let st = c .before .before .before .before .before .before in
-    let at = at-loop .loop in
-    let next = met-rest (st .args .y) (st .args .gs .now) (at .i)
-    (at-loop-test .loop-test .taken) in
-    rw (ne-eqb (met (st .args .y) (st .args .gs .now)) 0
-    (λ e. omega (arith, e, at .inv .1, next, at-meets .meets .ensures, c .if1 .taken)))
-
-add-i : tie.Need-add-i Inv-loop μ-loop
-add-i c = search needs
-
-loop-less : tie.Need-loop-less Inv-loop μ-loop
-loop-less c = search needs
+returns c = search (needs, met-some)
 
 loop-again : tie.Need-loop-again Inv-loop μ-loop
 loop-again c =
-    let at-meets = c .before in
-    let at-loop-test = at-meets .before .before in
-    let at-loop = at-loop-test .before in
-    let st = c .before .before .before .before .before .before in
-    let at = at-loop .loop in
-    let next = met-rest (st .args .y) (st .args .gs .now) (at .i)
-    (at-loop-test .loop-test .taken) in
-    (search needs, omega (arith, at .inv .1, next, at-meets .meets .ensures, c .if1 .left))
+    let at = c .before .before .before in
+    passed-missed (at .before .loop .inv) (at .loop-test .taken) (c .before .meets .ensures)
+    (c .if1 .left)
 
 returns-2 : tie.Need-returns-2 Inv-loop μ-loop
-returns-2 c =
-    let st = c .before .before .before in
-    let at = c .before .loop in
-    rw (eq-eqb (met (st .args .y) (st .args .gs .now)) 0
-    (omega (
-      arith,
-      at .inv .1,
-      met-end (st .args .y) (st .args .gs .now) (at .i) (at .inv .0)
-          (search needs),
-    )))
+returns-2 c = rw (passed-end (c .before .loop .inv) (search needs))
 
 pub some-met-spec : {M : Type 1} → statement M
 some-met-spec =
-    tie.close
-    (tie.spec
-    Inv-loop
-    μ-loop
-    loop-holds
-    mul-meets
-    shared-slice-read-meets
-    meets-requires
-    returns
-    add-i
-    loop-less
-    loop-again
-    returns-2)
+    tie.close (tie.spec Inv-loop μ-loop loop-holds (λ c. search needs) (λ c. search needs)
+    (λ c κs. search needs) returns (λ c. search needs) (λ c. search needs) loop-again returns-2)

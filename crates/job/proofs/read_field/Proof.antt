@@ -1,141 +1,73 @@
 -- `job::read_field` meets its contract. Assumes nothing.
-use mathlib.Core.Path.{ap}
-use Rattle.calls.proofs.CallLaws.{call-is}
-use Rattle.fields.specs.Fields.{tagAt}
-use Rattle.job_steps.specs.Steps.{lending, knownOf, fitting}
+use mathlib.Core.Path.{_≡_}
+use Prim.Native.Nat.{_≤_}
 use Rattle.job_steps.proofs.StepLaws.{not-first, not-second}
-use Rattle.job.proofs.FieldSteps.{field-1, field-2, field-3, field-4}
-use Rattle.job.proofs.FieldSteps.{taxa-gives, table-gives, partition-gives, far-offset}
+use Rattle.job.proofs.FieldSteps.{taxa-gives, table-gives, partition-gives, move-gives}
 use borrow.Author.Needs.{needs}
 use Rattle.job.proofs.read_field.Statement.{statement}
 use Rattle.job.proofs.read_field.Tie as tie
 
-shared-slice-read-tag : tie.Need-shared-slice-read-tag
-shared-slice-read-tag c = search needs
+-- the call, from past the tag
+abbrev entry : tie.After-shared-slice-known2 → tie.Start
+entry c = c .before .before .before .before .before
 
-read-taxa-requires : tie.Need-read-taxa-requires
-read-taxa-requires c κs = search needs
+-- past the first test it is not the first field, so there are taxa
+later : (c : tie.Else1) → entry (c .before) .args .s .at ≡ 0 → ⊥
+later c = not-first _ _ _ _ (entry (c .before) .pre .3) (c .if1 .left)
+
+big : (c : tie.Else1) → 4 ≤ entry (c .before) .args .s .taxa
+big c = entry (c .before) .pre .2 .taxa-big (later c)
 
 returns : tie.Need-returns
 returns c =
-    let at-if1 = c .before in
-    let st = at-if1 .before .before .before .before .before .before in
-    let a = st .args in
-    let job = a .job .now in
-    let s = a .s in
-    let m = lending (a .table .now) (a .parts .now) (a .out .now) in
-    call-is (ap (fitting (s .at) m) (field-1 job (knownOf s m) (tagAt job (s .at))
-    (at-if1 .if1 .taken)))
-    (taxa-gives job (s .at) (c .read-taxa .result) m (c .read-taxa .ensures))
+    let a = entry (c .before .before) .args in
+    taxa-gives (a .job .now) (a .s) (c .read-taxa .result) _ (c .before .if1 .taken)
+    (c .read-taxa .ensures)
 
 read-table-requires : tie.Need-read-table-requires
 read-table-requires c κs =
-    let at-if1 = c .before .before in
-    let st = at-if1 .before .before .before .before .before .before in
-    let a = st .args in
-    let s = a .s in
-    let tag = tagAt (a .job .now) (s .at) in
-    let later = not-first (s .at) (s .parts) (s .moves) tag (st .pre .3) (at-if1 .if1 .left) in
-    (st .pre .0, st .pre .1, st .pre .2 .taxa-big later, st .pre .2 .taxa-few)
-
-same-length : tie.Need-same-length
-same-length c = search needs
+    let b = big (c .before .before) in
+    search needs
 
 returns-2 : tie.Need-returns-2
 returns-2 c =
-    let at-read-table = c .before .before in
-    let at-if2 = at-read-table .before .before in
-    let st = at-if2 .before .before .before .before .before .before .before in
-    let a = st .args in
-    let job = a .job .now in
-    let s = a .s in
-    let m = lending (a .table .now) (a .parts .now) (a .out .now) in
-    call-is (ap (fitting (s .at) m) (field-2 job (knownOf s m) (tagAt job (s .at))
-    (at-if2 .if2 .taken)))
-    (table-gives job (s .at) (s .taxa) (at-read-table .read-table .result) (a .table .now) _
-    (a .parts .now) (a .out .now)
-    (at-read-table .read-table .ensures))
+    let read = c .before .before in
+    let two = read .before .before in
+    let a = entry (two .before .before) .args in
+    table-gives (a .job .now) (a .s) (read .read-table .result) _ _ _ _ (two .if2 .taken)
+    (read .read-table .ensures)
 
 read-partition-requires : tie.Need-read-partition-requires
 read-partition-requires c κs =
-    let at-if1 = c .before .before .before in
-    let st = at-if1 .before .before .before .before .before .before in
-    let a = st .args in
-    let s = a .s in
-    let tag = tagAt (a .job .now) (s .at) in
-    let later = not-first (s .at) (s .parts) (s .moves) tag (st .pre .3) (at-if1 .if1 .left) in
-    (st .pre .0, st .pre .2 .taxa-big later, st .pre .2 .taxa-few, st .pre .2 .for-parts)
-
-same-length-2 : tie.Need-same-length-2
-same-length-2 c = search needs
+    let b = big (c .before .before .before) in
+    search needs
 
 returns-3 : tie.Need-returns-3
 returns-3 c =
-    let at-read-partition = c .before .before in
-    let at-if3 = at-read-partition .before .before in
-    let st = at-if3 .before .before .before .before .before .before .before .before in
-    let a = st .args in
-    let job = a .job .now in
-    let s = a .s in
-    let m = lending (a .table .now) (a .parts .now) (a .out .now) in
-    call-is (ap (fitting (s .at) m) (field-3 job (knownOf s m) (tagAt job (s .at))
-    (at-if3 .if3 .taken)))
-    (partition-gives job s (at-read-partition .read-partition .result) (a .table .now)
-    (a .parts .now) _ (a .out .now)
-    (at-read-partition .read-partition .ensures))
+    let read = c .before .before in
+    let three = read .before .before in
+    let a = entry (three .before .before .before) .args in
+    partition-gives (a .job .now) (a .s) (read .read-partition .result) _ _ _ _ (three .if3 .taken)
+    (read .read-partition .ensures)
 
 read-move-requires : tie.Need-read-move-requires
 read-move-requires c κs =
-    let at-if2 = c .before .before .before .before in
-    let at-if1 = at-if2 .before in
-    let st = at-if1 .before .before .before .before .before .before in
-    let a = st .args in
-    let s = a .s in
-    let tag = tagAt (a .job .now) (s .at) in
-    let later = not-first (s .at) (s .parts) (s .moves) tag (st .pre .3) (at-if1 .if1 .left) in
-    let past = not-second (s .at) (s .parts) (s .moves) tag (st .pre .3) (at-if2 .if2 .left) in
-    (st .pre .0, far-offset (s .at) (st .pre .2 .offset later) past, st .pre .2)
-
-same-length-3 : tie.Need-same-length-3
-same-length-3 c = search needs
-
-same-length-4 : tie.Need-same-length-4
-same-length-4 c = search needs
-
-same-length-5 : tie.Need-same-length-5
-same-length-5 c = search needs
+    let two = c .before .before .before .before in
+    let st = entry (two .before .before) in
+    let past = not-second _ _ _ _ (st .pre .3) (two .if2 .left) in
+    let far = st .pre .2 .offset (later (two .before)) in
+    search needs
 
 returns-4 : tie.Need-returns-4
 returns-4 c =
-    let at-read-move = c .before .before .before .before in
-    let at-if3 = at-read-move .before .before .before .before in
-    let at-if2 = at-if3 .before in
-    let at-if1 = at-if2 .before in
-    let st = at-if1 .before .before .before .before .before .before in
-    let a = st .args in
-    let job = a .job .now in
-    let s = a .s in
-    let m = lending (a .table .now) (a .parts .now) (a .out .now) in
-    let tag = tagAt job (s .at) in
-    let which = field-4 job (knownOf s m) tag (at-if1 .if1 .left) (at-if2 .if2 .left)
-    (at-if3 .if3 .left) in
-    call-is (ap (fitting (s .at) m) which) (at-read-move .read-move .ensures)
+    let read = c .before .before .before .before in
+    let three = read .before .before .before .before in
+    let a = entry (three .before .before .before) .args in
+    move-gives (a .job .now) (a .s) (read .read-move .result) (three .before .before .if1 .left)
+    (three .before .if2 .left) (three .if3 .left) (read .read-move .ensures)
 
 pub read-field-spec : {M : Type 1} → statement M
 read-field-spec =
-    tie.close
-    (tie.spec
-    shared-slice-read-tag
-    read-taxa-requires
-    returns
-    read-table-requires
-    same-length
-    returns-2
-    read-partition-requires
-    same-length-2
-    returns-3
-    read-move-requires
-    same-length-3
-    same-length-4
-    same-length-5
-    returns-4)
+    tie.close (tie.spec (λ c. search needs) (λ c κs. search needs) returns read-table-requires
+    (λ c. search needs) returns-2 read-partition-requires (λ c. search needs) returns-3
+    read-move-requires (λ c. search needs) (λ c. search needs) (λ c. search needs) returns-4)

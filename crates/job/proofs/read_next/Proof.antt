@@ -1,136 +1,76 @@
 -- `job::read_next` meets its contract. Assumes nothing.
-use mathlib.Core.Path.{sym, _∙_}
-use borrow.Author.Tests.{not-true, not-false}
-use Rattle.calls.proofs.CallLaws.{call-is, call-refusesAt}
-use Rattle.calls.specs.declared.Refusal.{Refusal}
-use Rattle.job_steps.specs.Steps.{lending}
+use Rattle.calls.proofs.CallLaws.{call-is}
+use Rattle.taxa.proofs.Bools.{told-true, told-false}
+use Rattle.job_steps.specs.Steps.{Lent, lending}
 use Rattle.job_steps.proofs.StepLaws.{gives-refused}
 use Rattle.job_steps.proofs.StateLaws.{parted-of}
-use Rattle.job.proofs.FieldSteps.{end-gives, tag-16, tag-12, tag-next}
+use Rattle.job.proofs.FieldSteps.{end-gives, AtField, tag-16, tag-12, tag-next}
 use borrow.Author.Needs.{needs}
 use Rattle.job.proofs.read_next.Statement.{statement}
 use Rattle.job.proofs.read_next.Tie as tie
 
-read-end-requires : tie.Need-read-end-requires
-read-end-requires c κs =
-    let st = c .before .before .before .before .before .before in
-    parted-of (st .pre .1)
+-- the call, from past the lengths, and the memory that it is lent
+abbrev entry : tie.After-slice-known3 → tie.Start
+entry c = c .before .before .before .before
 
-same-length : tie.Need-same-length
-same-length c = search needs
+abbrev lent : tie.Start → Lent
+lent st = lending (st .args .table .now) (st .args .parts .now) (st .args .out .now)
+
+-- past the first test the state stands at a field
+at-field : (c : tie.Else1)
+    → let st = entry (c .before) in
+    AtField (st .args .job .now) (st .args .s) (lent st)
+at-field c = record { held = entry (c .before) .pre .1; inside = c .if1 .left }
+
+-- the first test, from past that of 16
+abbrev past-one : tie.After-seen-before → tie.Else1
+past-one c = c .before .before .before
+
+read-end-requires : tie.Need-read-end-requires
+read-end-requires c κs = parted-of (entry (c .before .before) .pre .1)
 
 returns : tie.Need-returns
 returns c =
-    let at-if1 = c .before .before in
-    let st = at-if1 .before .before .before .before .before in
-    let a = st .args in
-    let m = lending (a .table .now) (a .parts .now) (a .out .now) in
-    end-gives (a .job .now) (a .s) m (c .read-end .result) (at-if1 .if1 .taken)
-    (c .read-end .ensures)
-
-shared-slice-read-tag : tie.Need-shared-slice-read-tag
-shared-slice-read-tag c = search needs
+    let one = c .before .before in
+    let a = entry (one .before) .args in
+    end-gives (a .job .now) (a .s) (c .read-end .result) (one .if1 .taken) (c .read-end .ensures)
 
 seen-before-requires : tie.Need-seen-before-requires
-seen-before-requires c κs =
-    let st = c .before .before .before .before .before .before .before in
-    parted-of (st .pre .1)
-
-unseen-requires : tie.Need-unseen-requires
-unseen-requires c κs = search needs
-
-same-length-2 : tie.Need-same-length-2
-same-length-2 c = search needs
+seen-before-requires c κs = parted-of (at-field (c .before .before) .held)
 
 returns-2 : tie.Need-returns-2
 returns-2 c =
-    let at-if2 = c .before in
-    let at-seen-before = at-if2 .before in
-    let at-if1 = at-seen-before .before .before .before in
-    let st = at-if1 .before .before .before .before .before in
-    let a = st .args in
-    let m = lending (a .table .now) (a .parts .now) (a .out .now) in
-    let seen = at-seen-before .seen-before in
-    let no = sym (seen .ensures) ∙ not-true (seen .result) (at-if2 .if2 .taken) in
+    let two = c .before in
     gives-refused (c .unseen .result) (c .unseen .ensures)
-    (tag-16 (a .job .now) (a .s) m (st .pre .1) (at-if1 .if1 .left) no)
-
-allowed-requires : tie.Need-allowed-requires
-allowed-requires c κs = search needs
-
-same-length-3 : tie.Need-same-length-3
-same-length-3 c = search needs
+    (tag-16 (at-field (past-one (two .before)))
+    (told-false (two .before .seen-before .ensures) (two .if2 .taken)))
 
 returns-3 : tie.Need-returns-3
 returns-3 c =
-    let at-allowed = c .before in
-    let at-if2 = at-allowed .before in
-    let at-seen-before = at-if2 .before in
-    let at-if1 = at-seen-before .before .before .before in
-    let st = at-if1 .before .before .before .before .before in
-    let a = st .args in
-    let m = lending (a .table .now) (a .parts .now) (a .out .now) in
-    let seen = at-seen-before .seen-before in
-    let yes = sym (seen .ensures) ∙ not-false (seen .result) (at-if2 .if2 .left) in
-    let no = sym (at-allowed .allowed .ensures) ∙ not-true (at-allowed .allowed .result)
-    (c .if3 .taken) in
-    call-refusesAt Refusal.Field (a .s .at)
-    (tag-12 (a .job .now) (a .s) m (st .pre .1) (at-if1 .if1 .left) yes no)
+    let two = c .before .before in
+    tag-12 (at-field (past-one (two .before)))
+    (told-true (two .before .seen-before .ensures) (two .if2 .left))
+    (told-false (c .before .allowed .ensures) (c .if3 .taken))
 
 read-field-requires : tie.Need-read-field-requires
 read-field-requires c κs =
-    let at-if3 = c .before .before .before in
-    let at-allowed = at-if3 .before in
-    let at-if1 = at-allowed .before .before .before .before .before in
-    let st = at-if1 .before .before .before .before .before in
-    let may = sym (at-allowed .allowed .ensures) ∙ not-false (at-allowed .allowed .result)
-    (at-if3 .if3 .left) in
-    (at-if1 .if1 .left, st .pre .0, st .pre .1, may)
-
-same-length-4 : tie.Need-same-length-4
-same-length-4 c = search needs
-
-same-length-5 : tie.Need-same-length-5
-same-length-5 c = search needs
-
-same-length-6 : tie.Need-same-length-6
-same-length-6 c = search needs
+    let three = c .before .before .before in
+    let may = told-true (three .before .allowed .ensures) (three .if3 .left) in
+    search needs
 
 returns-4 : tie.Need-returns-4
 returns-4 c =
-    let at-read-field = c .before .before .before .before .before .before in
-    let at-if3 = at-read-field .before .before .before .before in
-    let at-allowed = at-if3 .before in
-    let at-if2 = at-allowed .before in
-    let at-seen-before = at-if2 .before in
-    let at-if1 = at-seen-before .before .before .before in
-    let st = at-if1 .before .before .before .before .before in
-    let a = st .args in
-    let m = lending (a .table .now) (a .parts .now) (a .out .now) in
-    let seen = at-seen-before .seen-before in
-    let yes = sym (seen .ensures) ∙ not-false (seen .result) (at-if2 .if2 .left) in
-    let may = sym (at-allowed .allowed .ensures) ∙ not-false (at-allowed .allowed .result)
-    (at-if3 .if3 .left) in
-    call-is (tag-next (a .job .now) (a .s) m (st .pre .1) (at-if1 .if1 .left) yes may)
-    (at-read-field .read-field .ensures)
+    let read = c .before .before .before .before .before .before in
+    let three = read .before .before .before .before in
+    let two = three .before .before in
+    call-is (tag-next (at-field (past-one (two .before)))
+    (told-true (two .before .seen-before .ensures) (two .if2 .left))
+    (told-true (three .before .allowed .ensures) (three .if3 .left)))
+    (read .read-field .ensures)
 
 pub read-next-spec : {M : Type 1} → statement M
 read-next-spec =
-    tie.close
-    (tie.spec
-    read-end-requires
-    same-length
-    returns
-    shared-slice-read-tag
-    seen-before-requires
-    unseen-requires
-    same-length-2
-    returns-2
-    allowed-requires
-    same-length-3
-    returns-3
-    read-field-requires
-    same-length-4
-    same-length-5
-    same-length-6
-    returns-4)
+    tie.close (tie.spec read-end-requires (λ c. search needs) returns (λ c. search needs)
+    seen-before-requires (λ c κs. search needs) (λ c. search needs) returns-2 (λ c κs. search needs)
+    (λ c. search needs) returns-3 read-field-requires (λ c. search needs) (λ c. search needs)
+    (λ c. search needs) returns-4)

@@ -1,151 +1,75 @@
 -- `job_reads::read_move` meets its contract. Assumes nothing.
-use mathlib.Core.Path.{sym, _∙_}
+use mathlib.Core.Path.{sym}
 use native.Mathlib.Omega.{arith}
-use borrow.Author.Tests.{not-true, not-false}
-use Rattle.calls.proofs.CallLaws.{call-refusesAt}
-use Rattle.calls.specs.declared.Refusal.{Refusal}
+use Rattle.taxa.proofs.Bools.{told-true, told-false}
 use Rattle.move_plan.specs.Entries.{moveOf}
-use Rattle.job_steps.specs.Steps.{lending}
-use Rattle.job_reads.proofs.ReadLaws.{reaches}
-use Rattle.job_steps.proofs.StepLaws.{move-12, refused-there, done-there, table-part, parts-held}
+use Rattle.fields.proofs.FieldLaws.{Framed, reaches}
+use Rattle.job_steps.proofs.StepLaws.{MoveRead, move-12, refused-there, done-there, part-there}
+use Rattle.job_steps.proofs.StepLaws.{part-length, parts-held}
 use borrow.Author.Needs.{needs}
 use Rattle.job_reads.proofs.read_move.Statement.{statement}
 use Rattle.job_reads.proofs.read_move.Tie as tie
 
-length-right-requires : tie.Need-length-right-requires
-length-right-requires c κs = search needs
+-- the call, from past the test of the length
+abbrev entry : tie.After-length-right → tie.Start
+entry c = c .before .before .before .before .before
+
+-- past the first test the length is right
+framed : (c : tie.Else1)
+    → let a = entry (c .before) .args in
+    Framed (a .job .now) (a .s .at) 4
+framed c = record { right = told-true (c .before .length-right .ensures) (c .if1 .left) }
+
+-- then the move is read, and the length of the table known
+read : (c : tie.After-table-bytes)
+    → let a = entry (c .before .before .before) .args in
+    MoveRead (a .job .now) (a .s) (a .table .now) (a .parts .now) (a .out .now)
+    (c .table-bytes .result) (moveOf (c .before .move-in .result))
+read c =
+    let st = entry (c .before .before .before) in
+    record {
+      held = st .pre .2;
+      past = st .pre .1;
+      framed = framed (c .before .before);
+      long = c .table-bytes .ensures;
+      is = c .before .move-in .ensures;
+    }
+
+-- the length of the table, from past the lines
+abbrev long : tie.After-list-move → tie.After-table-bytes
+long c = c .before .before .before .before .before
 
 returns : tie.Need-returns
 returns c =
-    let at-length-right = c .before in
-    let st = at-length-right .before .before .before .before .before in
-    let a = st .args in
-    let no = sym (at-length-right .length-right .ensures) ∙ not-true
-    (at-length-right .length-right .result) (c .if1 .taken) in
-    call-refusesAt Refusal.Field (a .s .at)
-    (move-12 (a .job .now) (a .s) (a .table .now) (a .parts .now) (a .out .now) (st .pre .2)
-    (st .pre .1) no)
-
-add-move-in : tie.Need-add-move-in
-add-move-in c = search needs
+    let a = entry (c .before) .args in
+    move-12 (a .job .now) (a .s) (told-false (c .before .length-right .ensures) (c .if1 .taken))
 
 move-in-requires : tie.Need-move-in-requires
-move-in-requires c κs =
-    let at-length-right = c .before in
-    let st = at-length-right .before .before .before .before .before in
-    let a = st .args in
-    let whole = sym (at-length-right .length-right .ensures) ∙ not-false
-    (at-length-right .length-right .result) (c .if1 .left) in
-    omega (arith, reaches (a .job .now) (a .s .at) 4 whole)
-
-table-bytes-requires : tie.Need-table-bytes-requires
-table-bytes-requires c κs = search needs
-
-add-number : tie.Need-add-number
-add-number c = search needs
+move-in-requires c κs = omega (arith, reaches (framed c))
 
 slice-relend-prefix-list-move : tie.Need-slice-relend-prefix-list-move
-slice-relend-prefix-list-move c =
-    let at-table-bytes = c .before in
-    let st = at-table-bytes .before .before .before .before .before .before .before .before in
-    omega (arith, at-table-bytes .table-bytes .ensures, st .pre .2 .for-table (st .pre .1))
+slice-relend-prefix-list-move c = part-there (read (c .before))
 
 slice-aggregate-list-move : tie.Need-slice-aggregate-list-move
-slice-aggregate-list-move c =
-    let at-table-bytes = c .before .before in
-    let st = at-table-bytes .before .before .before .before .before .before .before .before in
-    let a = st .args in
-    table-part (a .job .now) (a .s) (a .table .now) (a .parts .now) (a .out .now) (st .pre .2)
-    (st .pre .1)
-    (at-table-bytes .table-bytes .result) (at-table-bytes .table-bytes .ensures)
+slice-aggregate-list-move c = part-length (read (c .before .before))
 
 slice-aggregate-list-move-2 : tie.Need-slice-aggregate-list-move-2
-slice-aggregate-list-move-2 c =
-    let st = c .before .before .before .before .before .before .before .before .before .before
-    .before in
-    let a = st .args in
-    sym (parts-held (a .s) (lending (a .table .now) (a .parts .now) (a .out .now)) (st .pre .2))
-
-list-move-requires : tie.Need-list-move-requires
-list-move-requires c κs = search needs
-
-enum-known-r : tie.Need-enum-known-r
-enum-known-r c = search needs
-
-enum-known-e : tie.Need-enum-known-e
-enum-known-e c = search needs
-
-add-t26 : tie.Need-add-t26
-add-t26 c = search needs
-
-same-length : tie.Need-same-length
-same-length c = search needs
-
-same-length-2 : tie.Need-same-length-2
-same-length-2 c = search needs
+slice-aggregate-list-move-2 c = sym (parts-held (read (c .before .before .before) .held))
 
 returns-2 : tie.Need-returns-2
 returns-2 c =
-    let at-r = c .before in
-    let at-list-move = at-r .before .before .before .before .before .before in
-    let at-table-bytes = at-list-move .before .before .before .before .before in
-    let at-move-in = at-table-bytes .before in
-    let at-if1 = at-move-in .before in
-    let at-length-right = at-if1 .before in
-    let st = at-length-right .before .before .before .before .before in
-    let a = st .args in
-    let whole = sym (at-length-right .length-right .ensures) ∙ not-false
-    (at-length-right .length-right .result) (at-if1 .if1 .left) in
-    refused-there (a .job .now) (a .s) (a .table .now) (a .parts .now) (a .out .now) (st .pre .2)
-    (st .pre .1) whole
-    (at-table-bytes .table-bytes .result) (at-table-bytes .table-bytes .ensures)
-    (moveOf (at-move-in .move-in .result))
-    (at-move-in .move-in .ensures) (at-r .r .given .1) (at-list-move .list-move .ensures)
-
-same-length-3 : tie.Need-same-length-3
-same-length-3 c = search needs
-
-same-length-4 : tie.Need-same-length-4
-same-length-4 c = search needs
+    let listed = c .before .before .before .before .before .before .before in
+    refused-there (read (long listed)) (c .before .r .given .1) (listed .list-move .ensures)
 
 returns-3 : tie.Need-returns-3
 returns-3 c =
-    let at-e = c .before in
-    let at-list-move = at-e .before .before .before .before .before .before in
-    let at-table-bytes = at-list-move .before .before .before .before .before in
-    let at-move-in = at-table-bytes .before in
-    let at-if1 = at-move-in .before in
-    let at-length-right = at-if1 .before in
-    let st = at-length-right .before .before .before .before .before in
-    let a = st .args in
-    let whole = sym (at-length-right .length-right .ensures) ∙ not-false
-    (at-length-right .length-right .result) (at-if1 .if1 .left) in
-    done-there (a .job .now) (a .s) (a .table .now) (a .parts .now) (a .out .now) (st .pre .2)
-    (st .pre .1) whole
-    (at-table-bytes .table-bytes .result) (at-table-bytes .table-bytes .ensures)
-    (moveOf (at-move-in .move-in .result))
-    (at-move-in .move-in .ensures) (at-e .e .given .1) (at-list-move .list-move .ensures)
+    let listed = c .before .before .before .before .before .before .before in
+    done-there (read (long listed)) (c .before .e .given .1) (listed .list-move .ensures)
 
 pub read-move-spec : {M : Type 1} → statement M
 read-move-spec =
-    tie.close
-    (tie.spec
-    length-right-requires
-    returns
-    add-move-in
-    move-in-requires
-    table-bytes-requires
-    add-number
-    slice-relend-prefix-list-move
-    slice-aggregate-list-move
-    slice-aggregate-list-move-2
-    list-move-requires
-    enum-known-r
-    enum-known-e
-    add-t26
-    same-length
-    same-length-2
-    returns-2
-    same-length-3
-    same-length-4
-    returns-3)
+    tie.close (tie.spec (λ c κs. search needs) returns (λ c. search needs) move-in-requires
+    (λ c κs. search needs) (λ c. search needs) slice-relend-prefix-list-move
+    slice-aggregate-list-move slice-aggregate-list-move-2 (λ c κs. search needs) (λ c. search needs)
+    (λ c. search needs) (λ c. search needs) (λ c. search needs) (λ c. search needs) returns-2
+    (λ c. search needs) (λ c. search needs) returns-3)

@@ -1,122 +1,59 @@
 -- `job_reads::read_partition` meets its contract. Assumes nothing.
-use mathlib.Core.Path.{sym, _∙_}
 use native.Mathlib.Omega.{arith}
-use borrow.Author.Tests.{not-true, not-false}
-use Rattle.calls.proofs.CallLaws.{call-refusesAt}
-use Rattle.calls.specs.declared.Refusal.{Refusal}
-use Rattle.job_reads.proofs.ReadLaws.{reaches, part-12, part-6, part-11, part-next}
+use Rattle.taxa.proofs.Bools.{told-true, told-false}
+use Rattle.fields.proofs.FieldLaws.{Framed, reaches}
+use Rattle.job_reads.proofs.ReadLaws.{PartRead, part-12, part-6, part-11, part-next}
 use borrow.Author.Needs.{needs}
 use Rattle.job_reads.proofs.read_partition.Statement.{statement}
 use Rattle.job_reads.proofs.read_partition.Tie as tie
 
-length-right-requires : tie.Need-length-right-requires
-length-right-requires c κs = search needs
+-- the call, from past the test of the length
+abbrev entry : tie.After-length-right → tie.Start
+entry c = c .before .before .before
+
+-- past the first test the length is right
+framed : (c : tie.Else1)
+    → let a = entry (c .before) .args in
+    Framed (a .job .now) (a .s .at) 8
+framed c = record { right = told-true (c .before .length-right .ensures) (c .if1 .left) }
+
+-- past the second test a partition is read
+read : (c : tie.Else2)
+    → let n = c .before .before in
+    let a = entry (n .before .before) .args in
+    PartRead (a .job .now) (a .s) (a .parts .now) (n .number-in .result)
+read c =
+    let n = c .before .before in
+    record {
+      framed = framed (n .before);
+      is = n .number-in .ensures;
+      bound = told-true (c .before .within .ensures) (c .if2 .left);
+      held = entry (n .before .before) .pre .3;
+    }
 
 returns : tie.Need-returns
 returns c =
-    let at-length-right = c .before in
-    let st = at-length-right .before .before .before in
-    let a = st .args in
-    let no = sym (at-length-right .length-right .ensures) ∙ not-true
-    (at-length-right .length-right .result) (c .if1 .taken) in
-    call-refusesAt Refusal.Field (a .s .at) (part-12 (a .job .now) (a .s) (a .parts .now) no)
-
-add-number-in : tie.Need-add-number-in
-add-number-in c = search needs
+    let a = entry (c .before) .args in
+    part-12 (a .job .now) (a .s) (told-false (c .before .length-right .ensures) (c .if1 .taken))
 
 number-in-requires : tie.Need-number-in-requires
-number-in-requires c κs =
-    let at-length-right = c .before in
-    let st = at-length-right .before .before .before in
-    let a = st .args in
-    let whole = sym (at-length-right .length-right .ensures) ∙ not-false
-    (at-length-right .length-right .result) (c .if1 .left) in
-    omega (arith, reaches (a .job .now) (a .s .at) 8 whole)
-
-within-requires : tie.Need-within-requires
-within-requires c κs = search needs
+number-in-requires c κs = omega (arith, reaches (framed c))
 
 returns-2 : tie.Need-returns-2
 returns-2 c =
-    let at-within = c .before in
-    let at-number-in = at-within .before in
-    let at-if1 = at-number-in .before in
-    let at-length-right = at-if1 .before in
-    let st = at-length-right .before .before .before in
-    let a = st .args in
-    let whole = sym (at-length-right .length-right .ensures) ∙ not-false
-    (at-length-right .length-right .result) (at-if1 .if1 .left) in
-    let no = sym (at-within .within .ensures) ∙ not-true (at-within .within .result)
-    (c .if2 .taken) in
-    call-refusesAt Refusal.Partition (a .s .at)
-    (part-6 (a .job .now) (a .s) (a .parts .now) whole _ (at-number-in .number-in .ensures) no)
-
-sub-free : tie.Need-sub-free
-sub-free c = search needs
+    let n = c .before .before in
+    let a = entry (n .before .before) .args in
+    part-6 (a .job .now) (a .s) (framed (n .before)) (n .number-in .ensures)
+    (told-false (c .before .within .ensures) (c .if2 .taken))
 
 returns-3 : tie.Need-returns-3
-returns-3 c =
-    let at-if2 = c .before in
-    let at-within = at-if2 .before in
-    let at-number-in = at-within .before in
-    let at-if1 = at-number-in .before in
-    let at-length-right = at-if1 .before in
-    let st = at-length-right .before .before .before in
-    let a = st .args in
-    let whole = sym (at-length-right .length-right .ensures) ∙ not-false
-    (at-length-right .length-right .result) (at-if1 .if1 .left) in
-    let yes = sym (at-within .within .ensures) ∙ not-false (at-within .within .result)
-    (at-if2 .if2 .left) in
-    call-refusesAt Refusal.Room (a .s .at)
-    (part-11 (a .job .now) (a .s) (a .parts .now) whole _ (at-number-in .number-in .ensures) yes
-    (st .pre .3) (search needs))
-
-mul-parts : tie.Need-mul-parts
-mul-parts c = search needs
-
-slice-write-parts : tie.Need-slice-write-parts
-slice-write-parts c = search needs
-
-add-next : tie.Need-add-next
-add-next c = search needs
-
-add-count : tie.Need-add-count
-add-count c = search needs
-
-same-length : tie.Need-same-length
-same-length c = search needs
+returns-3 c = part-11 (read (c .before)) (search needs)
 
 returns-4 : tie.Need-returns-4
-returns-4 c =
-    let at-if2 = c .before in
-    let at-within = at-if2 .before in
-    let at-number-in = at-within .before in
-    let at-if1 = at-number-in .before in
-    let at-length-right = at-if1 .before in
-    let st = at-length-right .before .before .before in
-    let a = st .args in
-    let whole = sym (at-length-right .length-right .ensures) ∙ not-false
-    (at-length-right .length-right .result) (at-if1 .if1 .left) in
-    let yes = sym (at-within .within .ensures) ∙ not-false (at-within .within .result)
-    (at-if2 .if2 .left) in
-    part-next (a .job .now) (a .s) (a .parts .now) whole _ (at-number-in .number-in .ensures) yes
-    (st .pre .3) (search needs)
+returns-4 c = part-next (read (c .before)) (search needs)
 
 pub read-partition-spec : {M : Type 1} → statement M
 read-partition-spec =
-    tie.close
-    (tie.spec
-    length-right-requires
-    returns
-    add-number-in
-    number-in-requires
-    within-requires
-    returns-2
-    sub-free
-    returns-3
-    mul-parts
-    slice-write-parts
-    add-next
-    add-count
-    same-length
-    returns-4)
+    tie.close (tie.spec (λ c κs. search needs) returns (λ c. search needs) number-in-requires
+    (λ c κs. search needs) returns-2 (λ c. search needs) returns-3 (λ c. search needs)
+    (λ c. search needs) (λ c. search needs) (λ c. search needs) (λ c. search needs) returns-4)

@@ -1,52 +1,34 @@
 -- `job_seen::read_end` meets its contract. Assumes nothing.
-use mathlib.Core.Path.{sym, ap, _∙_}
-use borrow.Author.Tests.{not-true, not-false}
-use Rattle.job_steps.specs.Steps.{toldOf}
+use mathlib.Core.Path.{_∙_}
+use Rattle.taxa.proofs.Bools.{told-true, told-false}
 use Rattle.job_seen.proofs.SeenLaws.{end-12, end-16, end-over}
 use borrow.Author.Needs.{needs}
 use Rattle.job_seen.proofs.read_end.Statement.{statement}
 use Rattle.job_seen.proofs.read_end.Tie as tie
-use Rattle.calls.specs.Calls.{tells}
+
+-- the call, from past the first test
+abbrev entry : tie.Else1 → tie.Start
+entry c = c .before .before .before
 
 returns : tie.Need-returns
-returns c =
-    let st = c .before .before .before in
-    sym (ap (tells toldOf) (end-12 (st .args .s) (st .args .parts .now) (st .pre) (st .args .long)
-    (c .if1 .taken)))
+returns c = end-12 (c .before .before .before .pre) (c .if1 .taken)
 
 seen-so-far-requires : tie.Need-seen-so-far-requires
-seen-so-far-requires c κs =
-    let st = c .before .before .before in
-    st .pre
-
-unseen-requires : tie.Need-unseen-requires
-unseen-requires c κs = search needs
+seen-so-far-requires c κs = entry c .pre
 
 returns-2 : tie.Need-returns-2
 returns-2 c =
     let two = c .before in
-    let st = two .before .before .before .before .before in
-    let no = sym (two .before .seen-so-far .ensures) ∙ not-true (two .before .seen-so-far .result)
-    (two .if2 .taken) in
-    c .unseen .ensures ∙ sym (ap (tells toldOf) (end-16 (st .args .s) (st .args .parts .now)
-    (st .pre) (st .args .long) (two .before .before .if1 .left) no))
+    let one = two .before .before in
+    c .unseen .ensures ∙ end-16 (entry one .pre) (one .if1 .left)
+    (told-false (two .before .seen-so-far .ensures) (two .if2 .taken))
 
 returns-3 : tie.Need-returns-3
 returns-3 c =
-    let at-seen-so-far = c .before in
-    let at-if1 = at-seen-so-far .before in
-    let st = c .before .before .before .before .before in
-    let yes = sym (at-seen-so-far .seen-so-far .ensures) ∙ not-false
-    (at-seen-so-far .seen-so-far .result) (c .if2 .left) in
-    sym (ap (tells toldOf) (end-over (st .args .s) (st .args .parts .now) (st .pre) (st .args .long)
-    (at-if1 .if1 .left) yes))
+    let one = c .before .before in
+    end-over (entry one .pre) (one .if1 .left) (entry one .args .long)
+    (told-true (c .before .seen-so-far .ensures) (c .if2 .left))
 
 pub read-end-spec : {M : Type 1} → statement M
 read-end-spec =
-    tie.close
-    (tie.spec
-    returns
-    seen-so-far-requires
-    unseen-requires
-    returns-2
-    returns-3)
+    tie.close (tie.spec returns seen-so-far-requires (λ c κs. search needs) returns-2 returns-3)

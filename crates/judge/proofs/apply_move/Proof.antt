@@ -5,76 +5,44 @@ use mathlib.Core.List.{[]}
 use lib.ListN.{length-replicate}
 use Rattle.taxa.specs.Most.{most}
 use Rattle.tree.specs.Tree.{rows}
-use Rattle.door.proofs.PartitionLaws.{no-parts}
-use Rattle.door.proofs.DoorLaws.{door-opens, opened-ready}
+use Rattle.move_plan.specs.Entries.{moveOf}
+use Rattle.door.specs.Between.{Opened}
+use Rattle.door.proofs.DoorLaws.{opened-ready}
 use Rattle.judge.proofs.GroupLaws.{ready-rewrites}
-use Rattle.judge.proofs.SaidLaws.{moves-refused, moves-done}
+use Rattle.judge.proofs.SaidLaws.{moves-refused, moves-opens, moves-done}
 use borrow.Author.Needs.{needs}
 use Rattle.judge.proofs.apply_move.Statement.{statement}
 use Rattle.judge.proofs.apply_move.Tie as tie
 
+-- where the door opens: the tree was looked at, and the move has its plan
+abbrev past-enter : tie.After-entry2 → tie.After-enter
+past-enter c = c .before .before
+
+opened : (c : tie.After-entry2)
+    → let a = past-enter c .before .before .before .before .before .args in
+    let left = past-enter c .enter .last .1 .1 in
+    Opened (a .n) (a .t .now) (left .0) (left .1 .0) [] (moveOf (a .m)) (c .entry2 .given .0 .0)
+opened c = moves-opens (past-enter c .enter .ensures) (c .entry2 .given .1)
+
 enter-requires : tie.Need-enter-requires
 enter-requires c κs = (refl, length-replicate {A = ℕ} (rows most) 0)
 
-enum-known-entry : tie.Need-enum-known-entry
-enum-known-entry c = search needs
-
-enum-known-entry-2 : tie.Need-enum-known-entry-2
-enum-known-entry-2 c = search needs
-
 slice-aggregate-move-rows : tie.Need-slice-aggregate-move-rows
-slice-aggregate-move-rows c =
-    let at-entry2 = c .before .before .before in
-    let at-enter = at-entry2 .before .before in
-    let st = at-enter .before .before .before .before .before in
-    let a = st .args in
-    let o = door-opens [] (no-parts (a .n)) (at-enter .enter .ensures)
-    (at-entry2 .entry2 .given .1) in
-    sym (o .looked .rows .room)
+slice-aggregate-move-rows c = sym (opened (c .before .before .before) .looked .rows .room)
 
 move-rows-requires : tie.Need-move-rows-requires
-move-rows-requires c κs =
-    let at-entry2 = c .before .before .before in
-    let at-enter = at-entry2 .before .before in
-    let st = at-enter .before .before .before .before .before in
-    let a = st .args in
-    let o = door-opens [] (no-parts (a .n)) (at-enter .enter .ensures)
-    (at-entry2 .entry2 .given .1) in
-    ready-rewrites (opened-ready o)
-
-same-length : tie.Need-same-length
-same-length c = search needs
+move-rows-requires c κs = ready-rewrites (opened-ready (opened (c .before .before .before)))
 
 returns : tie.Need-returns
-returns c =
-    let at-entry = c .before in
-    let at-enter = at-entry .before .before in
-    moves-refused (at-enter .enter .ensures) (at-entry .entry .given .1)
-
-same-length-2 : tie.Need-same-length-2
-same-length-2 c = search needs
+returns c = search moves-refused
 
 returns-2 : tie.Need-returns-2
 returns-2 c =
-    let at-move-rows = c .before .before in
-    let at-entry2 = at-move-rows .before .before .before .before in
-    let at-enter = at-entry2 .before .before in
-    let st = at-enter .before .before .before .before .before in
-    let a = st .args in
-    let o = door-opens [] (no-parts (a .n)) (at-enter .enter .ensures)
-    (at-entry2 .entry2 .given .1) in
-    moves-done o (at-move-rows .move-rows .ensures)
+    let o = opened (c .before .before .before .before .before .before) in
+    search moves-done
 
 pub apply-move-spec : {M : Type 1} → statement M
 apply-move-spec =
-    tie.close
-    (tie.spec
-    enter-requires
-    enum-known-entry
-    enum-known-entry-2
-    slice-aggregate-move-rows
-    move-rows-requires
-    same-length
-    returns
-    same-length-2
+    tie.close (tie.spec enter-requires (λ c. search needs) (λ c. search needs)
+    slice-aggregate-move-rows move-rows-requires (λ c. search needs) returns (λ c. search needs)
     returns-2)

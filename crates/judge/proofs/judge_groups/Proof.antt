@@ -9,68 +9,31 @@ use Rattle.judge.proofs.judge_groups.Statement.{statement}
 use Rattle.judge.proofs.judge_groups.Tie as tie
 
 groups-requires : tie.Need-groups-requires
-groups-requires c κs =
-    let st = c .before .before .before .before .before .before in
-    first-asked (st .pre .0) (length-replicate {A = ℕ} room 0)
+groups-requires c κs = search (first-asked, length-replicate {A = ℕ} room 0)
 
 groups-requires-2 : tie.Need-groups-requires-2
-groups-requires-2 c κs =
-    let st = c .before .before .before .before .before .before .before .before in
-    second-asked (st .pre .0) (length-replicate {A = ℕ} room 0)
+groups-requires-2 c κs = search (second-asked, length-replicate {A = ℕ} room 0)
 
 array-share-prefix-gs : tie.Need-array-share-prefix-gs
-array-share-prefix-gs c =
-    let at-groups = c .before .before in
-    wrote-end (at-groups .groups .ensures .wrote)
+array-share-prefix-gs c = search wrote-end
 
 slice-aggregate-distance-each : tie.Need-slice-aggregate-distance-each
-slice-aggregate-distance-each c =
-    let at-groups = c .before .before .before in
-    wrote-part (at-groups .groups .ensures .wrote)
+slice-aggregate-distance-each c = search wrote-part
 
 array-share-prefix-hs : tie.Need-array-share-prefix-hs
-array-share-prefix-hs c =
-    let at-groups2 = c .before in
-    wrote-end (at-groups2 .groups2 .ensures .wrote)
+array-share-prefix-hs c = search wrote-end
 
 slice-aggregate-distance-each-2 : tie.Need-slice-aggregate-distance-each-2
-slice-aggregate-distance-each-2 c =
-    let at-groups2 = c .before .before in
-    wrote-part (at-groups2 .groups2 .ensures .wrote)
+slice-aggregate-distance-each-2 c = search wrote-part
 
 distance-each-requires : tie.Need-distance-each-requires
-distance-each-requires c κs =
-    let at-groups2 = c .before .before .before in
-    let at-groups = at-groups2 .before .before in
-    let st = at-groups .before .before .before .before .before .before .before in (
-      listed-few (st .pre .0) (at-groups .groups .ensures) (at-groups2 .groups2 .ensures),
-      st .pre .1 .room,
-    )
-
-same-length : tie.Need-same-length
-same-length c = search needs
+distance-each-requires c κs = search listed-few
 
 returns : tie.Need-returns
-returns c =
-    let at-distance-each = c .before .before in
-    let at-groups2 = at-distance-each .before .before .before .before in
-    let at-groups = at-groups2 .before .before in
-    let st = at-groups .before .before .before .before .before .before .before in
-    let a = st .args in
-    listed-told (st .pre .0) (at-groups .groups .ensures) (at-groups2 .groups2 .ensures)
-    (a .ys .now) (a .out .now)
-    (st .pre .1 .within) (at-distance-each .distance-each .ensures)
+returns c = search listed-told
 
 pub judge-groups-spec : {M : Type 1} → statement M
 judge-groups-spec =
-    tie.close
-    (tie.spec
-    groups-requires
-    groups-requires-2
-    array-share-prefix-gs
-    slice-aggregate-distance-each
-    array-share-prefix-hs
-    slice-aggregate-distance-each-2
-    distance-each-requires
-    same-length
-    returns)
+    tie.close (tie.spec groups-requires groups-requires-2 array-share-prefix-gs
+    slice-aggregate-distance-each array-share-prefix-hs slice-aggregate-distance-each-2
+    distance-each-requires (λ c. search needs) returns)

@@ -5,94 +5,54 @@ use lib.ListN.{length-replicate}
 use Rattle.taxa.specs.Most.{most}
 use Rattle.tree.specs.Tree.{rows}
 use Rattle.tree.specs.Refusals.{partitionsChecks}
+use Rattle.move_plan.specs.Entries.{moveOf}
+use Rattle.door.specs.Between.{Opened}
 use Rattle.door.proofs.DoorLaws.{door-opens, opened-ready}
 use Rattle.judge.proofs.SaidLaws.{judges-refused, judges-plan}
 use borrow.Author.Needs.{needs}
 use Rattle.judge.proofs.judge_move.Statement.{statement}
 use Rattle.judge.proofs.judge_move.Tie as tie
 
-parts-fit-requires : tie.Need-parts-fit-requires
-parts-fit-requires c κs = search needs
+-- where the door opens: the tree was looked at, the partitions pass, and the move has its plan
+abbrev past-enter : tie.After-entry2 → tie.After-enter
+past-enter c = c .before .before
+
+abbrev past-parts : tie.After-entry2 → tie.After-parts-fit
+past-parts c = past-enter c .before .before .before
+
+opened : (c : tie.After-entry2)
+    → let a = past-parts c .before .before .before .before .args in
+    let left = past-enter c .enter .last .1 .1 in
+    Opened (a .n) (a .t .now) (left .0) (left .1 .0) (partitionsChecks (a .n) (a .ys .now))
+    (moveOf (a .m)) (c .entry2 .given .0 .0)
+opened c =
+    door-opens _ (past-parts c .parts-fit .ensures) (past-enter c .enter .ensures)
+    (c .entry2 .given .1)
 
 enter-requires : tie.Need-enter-requires
 enter-requires c κs = (refl, length-replicate {A = ℕ} (rows most) 0)
 
-enum-known-entry : tie.Need-enum-known-entry
-enum-known-entry c = search needs
-
-enum-known-entry-2 : tie.Need-enum-known-entry-2
-enum-known-entry-2 c = search needs
-
 slice-aggregate-judge-plan : tie.Need-slice-aggregate-judge-plan
-slice-aggregate-judge-plan c =
-    let at-entry2 = c .before .before in
-    let at-enter = at-entry2 .before .before in
-    let at-parts-fit = at-enter .before .before .before in
-    let st = at-parts-fit .before .before .before .before in
-    let a = st .args in
-    let o = door-opens (partitionsChecks (a .n) (a .ys .now)) (at-parts-fit .parts-fit .ensures)
-    (at-enter .enter .ensures) (at-entry2 .entry2 .given .1) in
-    sym (o .looked .rows .room)
+slice-aggregate-judge-plan c = sym (opened (c .before .before) .looked .rows .room)
 
 slice-aggregate-judge-plan-2 : tie.Need-slice-aggregate-judge-plan-2
-slice-aggregate-judge-plan-2 c =
-    let at-entry2 = c .before .before .before in
-    let at-enter = at-entry2 .before .before in
-    let at-parts-fit = at-enter .before .before .before in
-    let st = at-parts-fit .before .before .before .before in
-    let a = st .args in
-    let o = door-opens (partitionsChecks (a .n) (a .ys .now)) (at-parts-fit .parts-fit .ensures)
-    (at-enter .enter .ensures) (at-entry2 .entry2 .given .1) in
-    sym (o .looked .sides .room)
+slice-aggregate-judge-plan-2 c = sym (opened (c .before .before .before) .looked .sides .room)
 
 judge-plan-requires : tie.Need-judge-plan-requires
 judge-plan-requires c κs =
-    let at-entry2 = c .before .before .before .before in
-    let at-enter = at-entry2 .before .before in
-    let at-parts-fit = at-enter .before .before .before in
-    let st = at-parts-fit .before .before .before .before in
-    let a = st .args in
-    let o = door-opens (partitionsChecks (a .n) (a .ys .now)) (at-parts-fit .parts-fit .ensures)
-    (at-enter .enter .ensures) (at-entry2 .entry2 .given .1) in
+    let o = opened (c .before .before .before .before) in
     (opened-ready o, o .parts)
 
 returns : tie.Need-returns
-returns c =
-    let at-entry = c .before in
-    let at-enter = at-entry .before .before in
-    let at-parts-fit = at-enter .before .before .before in
-    let st = at-parts-fit .before .before .before .before in
-    let a = st .args in
-    judges-refused (a .ys .now) (at-parts-fit .parts-fit .ensures) (at-enter .enter .ensures)
-    (at-entry .entry .given .1)
-
-same-length : tie.Need-same-length
-same-length c = search needs
+returns c = search judges-refused
 
 returns-2 : tie.Need-returns-2
 returns-2 c =
-    let at-judge-plan = c .before .before in
-    let at-entry2 = at-judge-plan .before .before .before .before .before in
-    let at-enter = at-entry2 .before .before in
-    let at-parts-fit = at-enter .before .before .before in
-    let st = at-parts-fit .before .before .before .before in
-    let a = st .args in
-    let o = door-opens (partitionsChecks (a .n) (a .ys .now)) (at-parts-fit .parts-fit .ensures)
-    (at-enter .enter .ensures) (at-entry2 .entry2 .given .1) in
-    judges-plan (a .ys .now) (at-judge-plan .judge-plan .result) o
-    (at-judge-plan .judge-plan .ensures)
+    let o = opened (c .before .before .before .before .before .before .before) in
+    search judges-plan
 
 pub judge-move-spec : {M : Type 1} → statement M
 judge-move-spec =
-    tie.close
-    (tie.spec
-    parts-fit-requires
-    enter-requires
-    enum-known-entry
-    enum-known-entry-2
-    slice-aggregate-judge-plan
-    slice-aggregate-judge-plan-2
-    judge-plan-requires
-    returns
-    same-length
-    returns-2)
+    tie.close (tie.spec (λ c κs. search needs) enter-requires (λ c. search needs)
+    (λ c. search needs) slice-aggregate-judge-plan slice-aggregate-judge-plan-2 judge-plan-requires
+    returns (λ c. search needs) returns-2)

@@ -5,88 +5,54 @@ use lib.ListN.{length-replicate}
 use Rattle.taxa.specs.Most.{most}
 use Rattle.tree.specs.Tree.{rows}
 use Rattle.tree.specs.Refusals.{partitionChecks}
+use Rattle.move_plan.specs.Entries.{moveOf}
+use Rattle.door.specs.Between.{Opened}
 use Rattle.door.proofs.DoorLaws.{door-opens, opened-ready}
 use Rattle.judge.proofs.SaidLaws.{one-refused, one-told, one-within}
 use borrow.Author.Needs.{needs}
 use Rattle.judge.proofs.judge_one.Statement.{statement}
 use Rattle.judge.proofs.judge_one.Tie as tie
 
-part-fits-requires : tie.Need-part-fits-requires
-part-fits-requires c κs = search needs
+-- where the door opens: the tree was looked at, the partition passes, and the move has its plan
+abbrev past-enter : tie.After-entry2 → tie.After-enter
+past-enter c = c .before .before
+
+abbrev past-part : tie.After-entry2 → tie.After-part-fits
+past-part c = past-enter c .before .before .before
+
+opened : (c : tie.After-entry2)
+    → let a = past-part c .before .before .args in
+    let left = past-enter c .enter .last .1 .1 in
+    Opened (a .n) (a .t .now) (left .0) (left .1 .0) (partitionChecks (a .n) (a .y)) (moveOf (a .m))
+    (c .entry2 .given .0 .0)
+opened c =
+    door-opens _ (past-part c .part-fits .ensures) (past-enter c .enter .ensures)
+    (c .entry2 .given .1)
 
 enter-requires : tie.Need-enter-requires
 enter-requires c κs = (refl, length-replicate {A = ℕ} (rows most) 0)
 
-enum-known-entry : tie.Need-enum-known-entry
-enum-known-entry c = search needs
-
-enum-known-entry-2 : tie.Need-enum-known-entry-2
-enum-known-entry-2 c = search needs
-
 slice-aggregate-one-groups : tie.Need-slice-aggregate-one-groups
-slice-aggregate-one-groups c =
-    let at-entry2 = c .before .before in
-    let at-enter = at-entry2 .before .before in
-    let at-part-fits = at-enter .before .before .before in
-    let st = at-part-fits .before .before in
-    let a = st .args in
-    let o = door-opens (partitionChecks (a .n) (a .y)) (at-part-fits .part-fits .ensures)
-    (at-enter .enter .ensures) (at-entry2 .entry2 .given .1) in
-    sym (o .looked .rows .room)
+slice-aggregate-one-groups c = sym (opened (c .before .before) .looked .rows .room)
 
 slice-aggregate-one-groups-2 : tie.Need-slice-aggregate-one-groups-2
-slice-aggregate-one-groups-2 c =
-    let at-entry2 = c .before .before .before in
-    let at-enter = at-entry2 .before .before in
-    let at-part-fits = at-enter .before .before .before in
-    let st = at-part-fits .before .before in
-    let a = st .args in
-    let o = door-opens (partitionChecks (a .n) (a .y)) (at-part-fits .part-fits .ensures)
-    (at-enter .enter .ensures) (at-entry2 .entry2 .given .1) in
-    sym (o .looked .sides .room)
+slice-aggregate-one-groups-2 c = sym (opened (c .before .before .before) .looked .sides .room)
 
 one-groups-requires : tie.Need-one-groups-requires
 one-groups-requires c κs =
-    let at-entry2 = c .before .before .before in
-    let at-enter = at-entry2 .before .before in
-    let at-part-fits = at-enter .before .before .before in
-    let st = at-part-fits .before .before in
-    let a = st .args in
-    let o = door-opens (partitionChecks (a .n) (a .y)) (at-part-fits .part-fits .ensures)
-    (at-enter .enter .ensures) (at-entry2 .entry2 .given .1) in
-    (opened-ready o, one-within (a .y) o)
+    let o = opened (c .before .before .before) in
+    search (opened-ready, one-within)
 
 returns : tie.Need-returns
-returns c =
-    let at-entry = c .before in
-    let at-enter = at-entry .before .before in
-    let at-part-fits = at-enter .before .before .before in
-    let st = at-part-fits .before .before in
-    let a = st .args in
-    one-refused (a .y) (at-part-fits .part-fits .ensures) (at-enter .enter .ensures)
-    (at-entry .entry .given .1)
+returns c = search one-refused
 
 returns-2 : tie.Need-returns-2
 returns-2 c =
-    let at-entry2 = c .before .before .before .before in
-    let at-enter = at-entry2 .before .before in
-    let at-part-fits = at-enter .before .before .before in
-    let st = at-part-fits .before .before in
-    let a = st .args in
-    let o = door-opens (partitionChecks (a .n) (a .y)) (at-part-fits .part-fits .ensures)
-    (at-enter .enter .ensures) (at-entry2 .entry2 .given .1) in
-    one-told (a .y) o (c .one-groups .ensures)
+    let o = opened (c .before .before .before .before) in
+    search one-told
 
 pub judge-one-spec : {M : Type 1} → statement M
 judge-one-spec =
-    tie.close
-    (tie.spec
-    part-fits-requires
-    enter-requires
-    enum-known-entry
-    enum-known-entry-2
-    slice-aggregate-one-groups
-    slice-aggregate-one-groups-2
-    one-groups-requires
-    returns
-    returns-2)
+    tie.close (tie.spec (λ c κs. search needs) enter-requires (λ c. search needs)
+    (λ c. search needs) slice-aggregate-one-groups slice-aggregate-one-groups-2 one-groups-requires
+    returns returns-2)

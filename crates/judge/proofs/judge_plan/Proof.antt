@@ -6,35 +6,13 @@ use Rattle.judge.proofs.judge_plan.Statement.{statement}
 use Rattle.judge.proofs.judge_plan.Tie as tie
 
 returns : tie.Need-returns
-returns c =
-    let st = c .before .before .before .before .before .before in
-    let a = st .args in
-    plan-11 (a .n) (a .t .now) (a .ys .now) (a .p) (a .out .now) (c .if1 .taken)
+returns c = search plan-11
 
 judge-groups-requires : tie.Need-judge-groups-requires
-judge-groups-requires c κs =
-    let at-if1 = c .before in
-    let st = at-if1 .before .before .before .before .before .before in
-    let a = st .args in (
-      st .pre .0,
-      record {
-        within = each-of (a .n) (a .ys .now) (st .pre .1);
-        room =
-            at-if1 .if1 .left;
-      },
-    )
-
-same-length : tie.Need-same-length
-same-length c = search needs
+judge-groups-requires c κs = search each-of
 
 returns-2 : tie.Need-returns-2
-returns-2 c =
-    let at-judge-groups = c .before .before in
-    let at-if1 = at-judge-groups .before .before in
-    let st = at-if1 .before .before .before .before .before .before in
-    let a = st .args in
-    plan-told (a .n) (a .t .now) (a .ys .now) (a .p) (a .out .now) (at-if1 .if1 .left)
-    (at-judge-groups .judge-groups .ensures)
+returns-2 c = search plan-told
 
 pub judge-plan-spec : {M : Type 1} → statement M
-judge-plan-spec = tie.close (tie.spec returns judge-groups-requires same-length returns-2)
+judge-plan-spec = tie.close (tie.spec returns judge-groups-requires (λ c. search needs) returns-2)

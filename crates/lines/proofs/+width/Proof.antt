@@ -1,8 +1,7 @@
 -- `lines::width` meets its contract. Assumes nothing.
 use native.Mathlib.Omega.{arith}
-use mathlib.Core.Path.{ap, _∙_}
-use Prim.Native.Nat.{_+_, _/_, ℕ, _<_}
-use Rattle.lines.proofs.Widths.{decimal-one, decimal-more, decimal-few}
+use Prim.Native.Nat.{ℕ, _<_}
+use Rattle.lines.proofs.Widths.{decimal-one, decimal-more, number-few}
 use borrow.Fn.Kinds.{In}
 use borrow.Fn.PlainCycle.{Measures, is, falls, and}
 use Rattle.lines.proofs.width.Reads as width
@@ -22,33 +21,19 @@ abbrev width-below : ℕ → In 0 width-kinds.ps
 width-below t = and 0 width-kinds.ps (falls 0 width-kinds.ps _<_ μ-width t) width.Pre
 
 width-returns : (t : ℕ) → width-lts.Need-returns (width-below t, width.Post) (width-at t) width.Post
-width-returns t c =
-    decimal-one (c .before .args .n) (c .if1 .taken)
+width-returns t c = decimal-one (c .if1 .taken)
 
 width-width-requires : (t : ℕ)
     → width-lts.Need-width-requires (width-below t, width.Post) (width-at t) width.Post
-width-width-requires t c κs =
-    (omega (arith, c .if1 .left, c .before .pre .0), tt)
+width-width-requires t c κs = omega arith
 
 width-add-result : (t : ℕ)
     → width-lts.Need-add-result (width-below t, width.Post) (width-at t) width.Post
-width-add-result t c =
-    let st = c .before .before in
-    record {
-      fits = omega (
-        arith,
-        c .width .ensures,
-        decimal-few (st .args .n / 10)
-            (omega (arith, st .fits .n .fits)),
-      );
-    }
+width-add-result t c = omega (arith, number-few, decimal-more (c .before .if1 .left))
 
 width-returns-2 : (t : ℕ)
     → width-lts.Need-returns-2 (width-below t, width.Post) (width-at t) width.Post
-width-returns-2 t c =
-    let at-if1 = c .before in
-    let st = at-if1 .before in
-    ap (λ (k : ℕ). k + 1) (c .width .ensures) ∙ decimal-more (st .args .n) (at-if1 .if1 .left)
+width-returns-2 t c = omega (arith, decimal-more (c .before .if1 .left))
 
 pub +width-spec : {M : Type 1} → statement M
 +width-spec =

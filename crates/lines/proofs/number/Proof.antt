@@ -1,7 +1,7 @@
 -- `lines::number` meets its contract. Assumes nothing.
-use mathlib.Core.Path.{ap, _∙_}
+use mathlib.Core.Path.{_≡_, ap, _∙_}
 use native.Mathlib.Omega.{arith}
-use lib.ListN.{length}
+use lib.ListN.{length, take}
 use Rattle.lines.specs.Lines.{decimal}
 use Rattle.lines.proofs.Widths.{fewest-decimal}
 use Rattle.lines.proofs.Placing.{copied}
@@ -9,44 +9,19 @@ use borrow.Author.Needs.{needs}
 use Rattle.lines.proofs.number.Statement.{statement}
 use Rattle.lines.proofs.number.Tie as tie
 
-decimal-requires : tie.Need-decimal-requires
-decimal-requires c κs = search needs
-
-array-share-prefix-digits : tie.Need-array-share-prefix-digits
-array-share-prefix-digits c = search needs
-
-slice-aggregate-copy : tie.Need-slice-aggregate-copy
-slice-aggregate-copy c = search needs
+-- the digits that `io::decimal` left are those of n
+digits-are : (c : tie.After-decimal)
+    → let st = c .before .before .before in
+    take (c .decimal .result) (c .decimal .last .1 .0) ≡ decimal (st .args .n)
+digits-are c = c .decimal .ensures .1 .1 ∙ fewest-decimal _ _ (c .decimal .ensures .1 .0)
 
 copy-requires : tie.Need-copy-requires
-copy-requires c κs =
-    let at-decimal = c .before .before in
-    let st = at-decimal .before .before .before in
-    omega (
-      arith,
-      ap length (at-decimal .decimal .ensures .1 .1 ∙ fewest-decimal (st .args .n) _
-          (at-decimal .decimal .ensures .1 .0)),
-    )
-
-same-length : tie.Need-same-length
-same-length c = search needs
+copy-requires c κs = omega (arith, ap length (digits-are (search)))
 
 returns : tie.Need-returns
-returns c =
-    let at-copy = c .before .before in
-    let at-decimal = at-copy .before .before .before in
-    let st = at-decimal .before .before .before in
-    let a = st .args in
-    copied _ (decimal (a .n)) _ (at-decimal .decimal .ensures .1 .1 ∙ fewest-decimal (a .n) _
-    (at-decimal .decimal .ensures .1 .0)) (at-copy .copy .ensures .0) (at-copy .copy .ensures .1)
+returns c = search (needs, copied, digits-are)
 
 pub number-spec : {M : Type 1} → statement M
 number-spec =
-    tie.close
-    (tie.spec
-    decimal-requires
-    array-share-prefix-digits
-    slice-aggregate-copy
-    copy-requires
-    same-length
-    returns)
+    tie.close (tie.spec (λ c κs. search needs) (λ c. search needs) (λ c. search needs) copy-requires
+    (λ c. search needs) returns)

@@ -8,11 +8,6 @@ slice-aggregate-write-all : tie.Need-slice-aggregate-write-all
 slice-aggregate-write-all c =
     search (needs, length-take-le)
 
-write-all-requires : tie.Need-write-all-requires
-write-all-requires c κs = search needs
-
-returns : tie.Need-returns
-returns c = search needs
-
 pub put-spec : {M : Type 1} → statement M
-put-spec = tie.close (tie.spec slice-aggregate-write-all write-all-requires returns)
+put-spec =
+    tie.close (tie.spec slice-aggregate-write-all (λ c κs. search needs) (λ c. search needs))

@@ -1,38 +1,32 @@
 -- `move_groups::is_target` meets its contract. Assumes nothing.
 use mathlib.Core.Path.{_∙_}
-use Rattle.move_groups.proofs.RowLaws.{target-taxon, target-self, target-other, target-at}
+use borrow.Author.Tests.{eq-eqb, ne-eqb, lt-ltb, le-ltb}
+use Rattle.moves.specs.Moves.{target}
+use Rattle.move_groups.proofs.RowLaws.{target-at, target-led}
 use borrow.Author.Needs.{needs}
 use Rattle.move_groups.proofs.is_target.Statement.{statement}
 use Rattle.move_groups.proofs.is_target.Tie as tie
 
 returns : tie.Need-returns
-returns c =
-    let s = c .before .before .before in
-    target-taxon (s .args .n) (s .args .t .now) (s .args .a) (s .args .v) (s .args .b)
-    (c .if1 .taken)
+unfolding target
+returns c = rw (lt-ltb _ _ (c .if1 .taken))
 
 returns-2 : tie.Need-returns-2
-returns-2 c =
-    let s = c .before .before .before .before in
-    target-self (s .args .n) (s .args .t .now) (s .args .a) (s .args .v) (s .args .b)
-    (c .before .if1 .left) (c .if2 .taken)
-
-far-requires : tie.Need-far-requires
-far-requires c κs = search needs
+unfolding target
+returns-2 c = rw (le-ltb _ _ (c .before .if1 .left), eq-eqb _ _ (c .if2 .taken))
 
 leads-requires : tie.Need-leads-requires
-leads-requires c κs =
-    let st = c .before .before .before .before .before in
-    (target-at (st .pre .0) (c .far .ensures), st .pre .1, st .pre .2)
+leads-requires c κs = search (needs, target-at)
 
 returns-3 : tie.Need-returns-3
+unfolding target
 returns-3 c =
     let at-if2 = c .before .before in
     let at-if1 = at-if2 .before in
     let st = at-if1 .before .before .before in
-    c .leads .ensures
-    ∙ target-other (st .pre .0) (c .before .far .ensures) (st .pre .2) (at-if1 .if1 .left)
-    (at-if2 .if2 .left)
+    let led = target-led (st .pre) (c .before .far .ensures) (at-if2 .if2 .left) in
+    rw (le-ltb _ _ (at-if1 .if1 .left), ne-eqb _ _ (at-if2 .if2 .left)) (c .leads .ensures ∙ led)
 
 pub is-target-spec : {M : Type 1} → statement M
-is-target-spec = tie.close (tie.spec returns returns-2 far-requires leads-requires returns-3)
+is-target-spec =
+    tie.close (tie.spec returns returns-2 (λ c κs. search needs) leads-requires returns-3)

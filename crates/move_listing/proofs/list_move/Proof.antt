@@ -1,215 +1,90 @@
 -- `move_listing::list_move` meets its contract. Assumes nothing.
-use Prim.Native.Nat.{ℕ}
-use mathlib.Core.Path.{refl, sym, _∙_}
+use Prim.Native.Nat.{ℕ, _≤_}
+use mathlib.Core.Path.{sym}
 use native.Mathlib.Omega.{arith}
-use lib.ListN.{length-replicate}
-use Rattle.taxa.specs.Most.{most, mostPartitions}
-use Rattle.tree.specs.Tree.{rows}
+use lib.ListN.{length, length-replicate}
+use Rattle.taxa.specs.Most.{mostPartitions}
 use Rattle.tree.specs.Refusals.{partitionsChecks}
-use Rattle.moves.specs.Between.{planMoved}
+use Rattle.move_plan.specs.Entries.{moveOf}
+use Rattle.door.specs.Between.{Opened}
 use Rattle.door.proofs.PartitionLaws.{few-of, each-of}
 use Rattle.door.proofs.DoorLaws.{door-opens, opened-ready}
 use Rattle.judge.proofs.GroupLaws.{ready-rewrites}
-use Rattle.saved.proofs.SavedLaws.{saved-wide}
-use Rattle.move_listing.proofs.FoundLaws.{found-are, found-length, found-within, found-same}
+use Rattle.move_listing.proofs.FoundLaws.{found-length, found-few, found-within, found-same}
 use Rattle.move_listing.proofs.ListsLaws.{lists-refused, lists-put}
 use borrow.Author.Needs.{needs}
 use Rattle.move_listing.proofs.list_move.Statement.{statement}
 use Rattle.move_listing.proofs.list_move.Tie as tie
 
-parts-fit-requires : tie.Need-parts-fit-requires
-parts-fit-requires c κs = search needs
+-- the function's entry, from past the door
+abbrev start : tie.After-entry2 → tie.Start
+start c = c .before .before .before .before .before .before .before .before .before .before
 
-enter-requires : tie.Need-enter-requires
-enter-requires c κs = (refl, length-replicate {A = ℕ} (rows most) 0)
+-- past the door all checks but that of room passed
+opened : (c : tie.After-entry2)
+    → let enter = c .before .before .enter .last in
+    let a = start c .args in
+    Opened (a .n) (a .t .now) (enter .1 .1 .0) (enter .1 .1 .1 .0)
+    (partitionsChecks (a .n) (a .ys .now)) (moveOf (a .m)) (c .entry2 .given .0 .0)
+opened c = search door-opens
 
-enum-known-entry : tie.Need-enum-known-entry
-enum-known-entry c = search needs
-
-enum-known-entry-2 : tie.Need-enum-known-entry-2
-enum-known-entry-2 c = search needs
+-- and so there are no more partitions than there may be
+few : (c : tie.After-entry2) → length (start c .args .ys .now) ≤ mostPartitions
+few c = few-of _ _ (opened c .parts)
 
 slice-aggregate-judge-groups : tie.Need-slice-aggregate-judge-groups
-slice-aggregate-judge-groups c =
-    let at-entry2 = c .before .before .before in
-    let at-enter = at-entry2 .before .before in
-    let at-parts-fit = at-enter .before .before .before .before in
-    let st = at-parts-fit .before .before .before .before in
-    let a = st .args in
-    let o = door-opens (partitionsChecks (a .n) (a .ys .now)) (at-parts-fit .parts-fit .ensures)
-    (at-enter .enter .ensures) (at-entry2 .entry2 .given .1) in
-    sym (o .looked .rows .room)
+slice-aggregate-judge-groups c = sym (opened (search) .looked .rows .room)
 
 slice-aggregate-judge-groups-2 : tie.Need-slice-aggregate-judge-groups-2
-slice-aggregate-judge-groups-2 c =
-    let at-entry2 = c .before .before .before .before in
-    let at-enter = at-entry2 .before .before in
-    let at-parts-fit = at-enter .before .before .before .before in
-    let st = at-parts-fit .before .before .before .before in
-    let a = st .args in
-    let o = door-opens (partitionsChecks (a .n) (a .ys .now)) (at-parts-fit .parts-fit .ensures)
-    (at-enter .enter .ensures) (at-entry2 .entry2 .given .1) in
-    sym (o .looked .sides .room)
-
-slice-aggregate-judge-groups-3 : tie.Need-slice-aggregate-judge-groups-3
-slice-aggregate-judge-groups-3 c = search needs
+slice-aggregate-judge-groups-2 c = sym (opened (search) .looked .sides .room)
 
 judge-groups-requires : tie.Need-judge-groups-requires
 judge-groups-requires c κs =
-    let at-entry2 = c .before .before .before .before .before in
-    let at-enter = at-entry2 .before .before in
-    let at-parts-fit = at-enter .before .before .before .before in
-    let st = at-parts-fit .before .before .before .before in
-    let a = st .args in
-    let o = door-opens (partitionsChecks (a .n) (a .ys .now)) (at-parts-fit .parts-fit .ensures)
-    (at-enter .enter .ensures) (at-entry2 .entry2 .given .1) in
-    let whole = length-replicate {A = ℕ} mostPartitions 0 in
-    let few = few-of (a .n) (a .ys .now) (o .parts) in (
-      opened-ready o,
+    let through : tie.After-entry2 = search in (
+      opened-ready (opened through),
       record {
-        within = each-of (a .n) (a .ys .now) (o .parts);
-        room =
-            omega (arith, few, whole);
+        within = each-of _ _ (opened through .parts);
+        room = omega (arith, few through, length-replicate {A = ℕ} mostPartitions 0);
       },
     )
 
 array-share-prefix-ds : tie.Need-array-share-prefix-ds
-array-share-prefix-ds c =
-    let at-judge-groups = c .before in
-    let at-entry2 = at-judge-groups .before .before .before .before .before .before in
-    let st = at-entry2 .before .before .before .before .before .before .before .before .before
-    .before in
-    let a = st .args in
-    let u = planMoved (a .n) (a .t .now) (at-entry2 .entry2 .given .0 .0) in
-    found-within (a .n) (a .t .now) u (a .ys .now) (at-judge-groups .judge-groups .ensures)
+array-share-prefix-ds c = search (needs, found-within, c .before .judge-groups .ensures)
 
 slice-aggregate-found : tie.Need-slice-aggregate-found
-slice-aggregate-found c =
-    let at-judge-groups = c .before .before in
-    let at-entry2 = at-judge-groups .before .before .before .before .before .before in
-    let st = at-entry2 .before .before .before .before .before .before .before .before .before
-    .before in
-    let a = st .args in
-    let u = planMoved (a .n) (a .t .now) (at-entry2 .entry2 .given .0 .0) in
-    sym (found-length (a .n) (a .t .now) u (a .ys .now) (at-judge-groups .judge-groups .ensures))
+slice-aggregate-found c = search (needs, found-length, c .before .before .judge-groups .ensures)
 
 saved-of-requires : tie.Need-saved-of-requires
-saved-of-requires c κs =
-    let at-judge-groups = c .before .before in
-    let at-entry2 = at-judge-groups .before .before .before .before .before .before in
-    let st = at-entry2 .before .before .before .before .before .before .before .before .before
-    .before in
-    let a = st .args in
-    let u = planMoved (a .n) (a .t .now) (at-entry2 .entry2 .given .0 .0) in
-    sym (found-length (a .n) (a .t .now) u (a .ys .now) (at-judge-groups .judge-groups .ensures))
+saved-of-requires c κs = search (needs, found-length, c .before .before .judge-groups .ensures)
 
 put-where-room-requires : tie.Need-put-where-room-requires
 put-where-room-requires c κs =
-    let at-judge-groups = c .before .before .before .before in
-    let at-entry2 = at-judge-groups .before .before .before .before .before .before in
-    let at-enter = at-entry2 .before .before in
-    let at-parts-fit = at-enter .before .before .before .before in
-    let st = at-parts-fit .before .before .before .before in
-    let a = st .args in
-    let o = door-opens (partitionsChecks (a .n) (a .ys .now)) (at-parts-fit .parts-fit .ensures)
-    (at-enter .enter .ensures) (at-entry2 .entry2 .given .1) in
-    let u = planMoved (a .n) (a .t .now) (at-entry2 .entry2 .given .0 .0) in
-    let told = at-judge-groups .judge-groups .ensures in (
-      omega (
-        arith,
-        found-length (a .n) (a .t .now) u (a .ys .now) told,
-        few-of (a .n) (a .ys .now)
-            (o .parts),
-      ),
-      found-same (a .n) (a .t .now) u (a .ys .now) told,
-    )
+    let h = few (search) in
+    search (needs, found-few, found-same, c .before .before .before .before .judge-groups .ensures)
 
 slice-aggregate-move-where : tie.Need-slice-aggregate-move-where
-slice-aggregate-move-where c =
-    let at-entry2 =
-    c .before .before .before .before .before .before .before .before .before .before .before
-    .before .before .before .before in
-    let at-enter = at-entry2 .before .before in
-    let at-parts-fit = at-enter .before .before .before .before in
-    let st = at-parts-fit .before .before .before .before in
-    let a = st .args in
-    let o = door-opens (partitionsChecks (a .n) (a .ys .now)) (at-parts-fit .parts-fit .ensures)
-    (at-enter .enter .ensures) (at-entry2 .entry2 .given .1) in
-    sym (o .looked .rows .room)
+slice-aggregate-move-where c = sym (opened (search) .looked .rows .room)
 
 move-where-requires : tie.Need-move-where-requires
-move-where-requires c κs =
-    let at-entry2 =
-    c .before .before .before .before .before .before .before .before .before .before .before
-    .before .before .before .before in
-    let at-enter = at-entry2 .before .before in
-    let at-parts-fit = at-enter .before .before .before .before in
-    let st = at-parts-fit .before .before .before .before in
-    let a = st .args in
-    let o = door-opens (partitionsChecks (a .n) (a .ys .now)) (at-parts-fit .parts-fit .ensures)
-    (at-enter .enter .ensures) (at-entry2 .entry2 .given .1) in
-    ready-rewrites (opened-ready o)
-
-same-length : tie.Need-same-length
-same-length c = search needs
+move-where-requires c κs = ready-rewrites (opened-ready (opened (search)))
 
 returns : tie.Need-returns
-returns c =
-    let at-entry = c .before in
-    let at-enter = at-entry .before .before in
-    let at-parts-fit = at-enter .before .before .before .before in
-    let st = at-parts-fit .before .before .before .before in
-    let a = st .args in
-    lists-refused (a .ys .now) (a .number) (a .place) (at-parts-fit .parts-fit .ensures)
-    (at-enter .enter .ensures) (at-entry .entry .given .1)
-
-same-length-2 : tie.Need-same-length-2
-same-length-2 c = search needs
-
-same-length-3 : tie.Need-same-length-3
-same-length-3 c = search needs
+returns c = search (needs, lists-refused)
 
 returns-2 : tie.Need-returns-2
 returns-2 c =
-    let at-move-where = c .before .before in
-    let at-put-where-room = at-move-where .before .before .before .before .before in
-    let at-saved-of = at-put-where-room .before .before in
-    let at-judge-groups = at-saved-of .before .before .before in
-    let at-entry2 = at-judge-groups .before .before .before .before .before .before in
-    let at-enter = at-entry2 .before .before in
-    let at-parts-fit = at-enter .before .before .before .before in
-    let st = at-parts-fit .before .before .before .before in
-    let a = st .args in
-    let o = door-opens (partitionsChecks (a .n) (a .ys .now)) (at-parts-fit .parts-fit .ensures)
-    (at-enter .enter .ensures) (at-entry2 .entry2 .given .1) in
-    let u = planMoved (a .n) (a .t .now) (at-entry2 .entry2 .given .0 .0) in
-    let wide = saved-wide (a .n) most (a .ys .now) _ (o .looked .good .few)
-    (each-of (a .n) (a .ys .now) (o .parts)) in
-    lists-put (a .ys .now) (a .number) (a .place) o (at-put-where-room .put-where-room .result)
-    (found-are (a .n) (a .t .now) u (a .ys .now) (at-judge-groups .judge-groups .ensures))
-    (at-saved-of .saved-of .ensures ∙ wide) (at-put-where-room .put-where-room .ensures)
-    (at-move-where .move-where .ensures)
+    let put : tie.After-put-where-room = search in
+    let judged : tie.After-judge-groups = search in
+    let through : tie.After-entry2 = search in
+    let a = start through .args in
+    lists-put (a .ys .now) (a .number) (a .place) (opened through) (put .put-where-room .result)
+    (judged .judge-groups .ensures) (search) (put .put-where-room .ensures)
+    (c .before .before .move-where .ensures)
 
 pub list-move-spec : {M : Type 1} → statement M
 list-move-spec =
-    tie.close
-    (tie.spec
-    parts-fit-requires
-    enter-requires
-    enum-known-entry
-    enum-known-entry-2
-    slice-aggregate-judge-groups
-    slice-aggregate-judge-groups-2
-    slice-aggregate-judge-groups-3
-    judge-groups-requires
-    array-share-prefix-ds
-    slice-aggregate-found
-    saved-of-requires
-    put-where-room-requires
-    slice-aggregate-move-where
-    move-where-requires
-    same-length
-    returns
-    same-length-2
-    same-length-3
-    returns-2)
+    tie.close (tie.spec (λ c κs. search needs) (λ c κs. search needs) (λ c. search needs)
+    (λ c. search needs) slice-aggregate-judge-groups slice-aggregate-judge-groups-2
+    (λ c. search needs) judge-groups-requires array-share-prefix-ds slice-aggregate-found
+    saved-of-requires put-where-room-requires slice-aggregate-move-where move-where-requires
+    (λ c. search needs) returns (λ c. search needs) (λ c. search needs) returns-2)

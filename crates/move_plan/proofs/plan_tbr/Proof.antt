@@ -1,162 +1,86 @@
 -- `move_plan::plan_tbr` meets its contract. Assumes nothing.
-use mathlib.Core.Path.{sym, ap, ap₂, _∙_}
-use mathlib.Core.Bool.{not}
-use Prim.Native.Nat.{ℕ}
+use mathlib.Core.Path.{_≡_}
+use mathlib.Core.Bool.{true}
+use mathlib.Core.List.{[], _∷_}
+use Prim.Native.Nat.{_<_}
 use native.Mathlib.Omega.{arith}
-use borrow.Author.Tests.{not-true, not-false}
-use Rattle.calls.specs.Calls.{gives}
-use Rattle.moves.specs.Moves.{atBoth}
-use Rattle.moves.specs.Between.{toGo}
-use Rattle.move_plan.proofs.FitLaws.{three-rows, says-8, says-9, says-10, says-plan, plan-is}
+use Rattle.calls.specs.Calls.{judged}
+use Rattle.taxa.proofs.Bools.{told-true, told-false}
+use Rattle.tree.specs.Tree.{lo, hi, rows}
+use Rattle.moves.specs.Moves.{atBoth, allRows, targets}
+use Rattle.move_plan.proofs.FitLaws.{three-rows}
+use borrow.Author.Needs.{needs}
 use Rattle.move_plan.proofs.plan_tbr.Statement.{statement}
 use Rattle.move_plan.proofs.plan_tbr.Tie as tie
 
-all-rows-requires : tie.Need-all-rows-requires
-all-rows-requires c κs =
-    let st = c .before .before in
-    (st .pre .good .valid .big, st .pre .good .few)
+-- past the first test all three numbers are rows
+abbrev entry : tie.Else1 → tie.Start
+entry c = c .before .before .before .before
+
+right : (c : tie.Else1)
+    → let a = entry c .args in allRows (a .n) (a .a ∷ a .b ∷ a .c ∷ []) ≡ true
+right c = told-true (c .before .all-rows .ensures) (c .if1 .left)
+
+three : (c : tie.Else1)
+    → let a = entry c .args in (a .a < rows (a .n)) × (a .b < rows (a .n)) × (a .c < rows (a .n))
+three c = three-rows _ _ _ (entry c .pre .good .valid .big) (right c)
+
+-- past the second test they are targets
+fit : (c : tie.Else2)
+    → let a = entry (c .before .before) .args in
+    targets (a .n) (a .t .now) (a .a) (a .b) (a .c) ≡ true
+fit c = told-true (c .before .tbr-fits .ensures) (c .if2 .left)
+
+-- the third test tells whether both targets touch their ends
+idle : (c : tie.After-at-both)
+    → let a = entry (c .before .before .before .before .before) .args in
+    let t = a .t .now in
+    c .at-both .result ≡ atBoth t (a .b) (lo t (a .a)) (a .c) (hi t (a .a))
+idle c = cc
 
 returns : tie.Need-returns
-returns c =
-    let at-all-rows = c .before in
-    says-8 _ _ _ _ (sym (at-all-rows .all-rows .ensures) ∙ not-true (at-all-rows .all-rows .result)
-    (c .if1 .taken))
+unfolding judged
+returns c = rw (told-false (c .before .all-rows .ensures) (c .if1 .taken))
 
 tbr-fits-requires : tie.Need-tbr-fits-requires
-tbr-fits-requires c κs =
-    let at-all-rows = c .before in
-    let st = at-all-rows .before .before .before in
-    let a = st .args in
-    let right = sym (at-all-rows .all-rows .ensures) ∙ not-false (at-all-rows .all-rows .result)
-    (c .if1 .left) in
-    let rs = three-rows (a .n) (a .a) (a .b) (a .c) (st .pre .good .valid .big) right in
-    (st .pre, rs .0, rs .1, rs .2)
+tbr-fits-requires c κs = search (needs, three c)
 
 returns-2 : tie.Need-returns-2
+unfolding judged
 returns-2 c =
-    let at-tbr-fits = c .before in
-    let at-if1 = at-tbr-fits .before in
-    let at-all-rows = at-if1 .before in
-    let right = sym (at-all-rows .all-rows .ensures) ∙ not-false (at-all-rows .all-rows .result)
-    (at-if1 .if1 .left) in
-    says-9 _ _ _ _ right (sym (at-tbr-fits .tbr-fits .ensures) ∙ not-true
-    (at-tbr-fits .tbr-fits .result) (c .if2 .taken))
+    let told = c .before in
+    rw (right (told .before), told-false (told .tbr-fits .ensures) (c .if2 .taken))
 
 lo-requires : tie.Need-lo-requires
-lo-requires c κs =
-    let at-if1 = c .before .before in
-    let at-all-rows = at-if1 .before in
-    let st = at-all-rows .before .before .before in
-    let a = st .args in
-    let right = sym (at-all-rows .all-rows .ensures) ∙ not-false (at-all-rows .all-rows .result)
-    (at-if1 .if1 .left) in
-    let rs = three-rows (a .n) (a .a) (a .b) (a .c) (st .pre .good .valid .big) right in
-    omega (arith, rs .0, st .pre .good .valid .len)
+lo-requires c κs = omega (arith, three (c .before .before))
 
 hi-requires : tie.Need-hi-requires
-hi-requires c κs =
-    let at-if1 = c .before .before .before in
-    let at-all-rows = at-if1 .before in
-    let st = at-all-rows .before .before .before in
-    let a = st .args in
-    let right = sym (at-all-rows .all-rows .ensures) ∙ not-false (at-all-rows .all-rows .result)
-    (at-if1 .if1 .left) in
-    let rs = three-rows (a .n) (a .a) (a .b) (a .c) (st .pre .good .valid .big) right in
-    omega (arith, rs .0, st .pre .good .valid .len)
+hi-requires c κs = omega (arith, three (c .before .before .before))
 
 at-both-requires : tie.Need-at-both-requires
-at-both-requires c κs =
-    let at-if1 = c .before .before .before .before in
-    let at-all-rows = at-if1 .before in
-    let st = at-all-rows .before .before .before in
-    let a = st .args in
-    let right = sym (at-all-rows .all-rows .ensures) ∙ not-false (at-all-rows .all-rows .result)
-    (at-if1 .if1 .left) in
-    let rs = three-rows (a .n) (a .a) (a .b) (a .c) (st .pre .good .valid .big) right in (
-      omega (arith, rs .1, st .pre .good .valid .len),
-      omega (arith, rs .2, st .pre .good .valid .len),
-    )
+at-both-requires c κs = omega (arith, three (c .before .before .before .before))
 
 returns-3 : tie.Need-returns-3
+unfolding judged
 returns-3 c =
-    let at-at-both = c .before in
-    let at-hi = at-at-both .before in
-    let at-lo = at-hi .before in
-    let at-if2 = at-lo .before in
-    let at-tbr-fits = at-if2 .before in
-    let at-if1 = at-tbr-fits .before in
-    let at-all-rows = at-if1 .before in
-    let st = at-all-rows .before .before .before in
-    let a = st .args in
-    let right = sym (at-all-rows .all-rows .ensures) ∙ not-false (at-all-rows .all-rows .result)
-    (at-if1 .if1 .left) in
-    let good = sym (at-tbr-fits .tbr-fits .ensures) ∙ not-false (at-tbr-fits .tbr-fits .result)
-    (at-if2 .if2 .left) in
-    let same = ap₂ (λ (u v : ℕ). atBoth (a .t .now) (a .b) u (a .c) v) (at-lo .lo .ensures)
-    (at-hi .hi .ensures) in
-    says-10 _ _ _ _ right good (ap not (sym (at-at-both .at-both .ensures ∙ same) ∙ c .if3 .taken))
+    let at-if2 = c .before .before .before .before in
+    rw (right (at-if2 .before .before), fit at-if2, ← idle (c .before), c .if3 .taken)
 
 to-go-requires : tie.Need-to-go-requires
-to-go-requires c κs =
-    let at-if1 = c .before .before .before .before .before .before in
-    let at-all-rows = at-if1 .before in
-    let st = at-all-rows .before .before .before in
-    let a = st .args in
-    let right = sym (at-all-rows .all-rows .ensures) ∙ not-false (at-all-rows .all-rows .result)
-    (at-if1 .if1 .left) in
-    let rs = three-rows (a .n) (a .a) (a .b) (a .c) (st .pre .good .valid .big) right in
-    omega (arith, rs .1, st .pre .good .valid .len)
+to-go-requires c κs = omega (arith, three (c .before .before .before .before .before .before))
 
 to-go-requires-2 : tie.Need-to-go-requires-2
 to-go-requires-2 c κs =
-    let at-if1 = c .before .before .before .before .before .before .before in
-    let at-all-rows = at-if1 .before in
-    let st = at-all-rows .before .before .before in
-    let a = st .args in
-    let right = sym (at-all-rows .all-rows .ensures) ∙ not-false (at-all-rows .all-rows .result)
-    (at-if1 .if1 .left) in
-    let rs = three-rows (a .n) (a .a) (a .b) (a .c) (st .pre .good .valid .big) right in
-    omega (arith, rs .2, st .pre .good .valid .len)
+    omega (arith, three (c .before .before .before .before .before .before .before))
 
 returns-4 : tie.Need-returns-4
+unfolding judged
 returns-4 c =
-    let at-to-go = c .before in
-    let at-if3 = at-to-go .before in
-    let at-at-both = at-if3 .before in
-    let at-hi = at-at-both .before in
-    let at-lo = at-hi .before in
-    let at-if2 = at-lo .before in
-    let at-tbr-fits = at-if2 .before in
-    let at-if1 = at-tbr-fits .before in
-    let at-all-rows = at-if1 .before in
-    let st = at-all-rows .before .before .before in
-    let a = st .args in
-    let right = sym (at-all-rows .all-rows .ensures) ∙ not-false (at-all-rows .all-rows .result)
-    (at-if1 .if1 .left) in
-    let good = sym (at-tbr-fits .tbr-fits .ensures) ∙ not-false (at-tbr-fits .tbr-fits .result)
-    (at-if2 .if2 .left) in
-    let same = ap₂ (λ (u v : ℕ). atBoth (a .t .now) (a .b) u (a .c) v) (at-lo .lo .ensures)
-    (at-hi .hi .ensures) in
-    let first = at-to-go .to-go .ensures ∙ ap (λ (v : ℕ). toGo (a .t .now) v (a .b))
-    (at-lo .lo .ensures) in
-    let second = c .to-go2 .ensures ∙ ap (λ (v : ℕ). toGo (a .t .now) v (a .c))
-    (at-hi .hi .ensures) in
-    ap gives (plan-is first second)
-    ∙ says-plan _ _ _ _ right good (ap not (sym (at-at-both .at-both .ensures ∙ same)
-    ∙ at-if3 .if3 .left))
+    let at-if3 = c .before .before in
+    let at-if2 = at-if3 .before .before .before .before in
+    rw (right (at-if2 .before .before), fit at-if2, ← idle (at-if3 .before), at-if3 .if3 .left) (cc)
 
 pub plan-tbr-spec : {M : Type 1} → statement M
 plan-tbr-spec =
-    tie.close
-    (tie.spec
-    all-rows-requires
-    returns
-    tbr-fits-requires
-    returns-2
-    lo-requires
-    hi-requires
-    at-both-requires
-    returns-3
-    to-go-requires
-    to-go-requires-2
-    returns-4)
+    tie.close (tie.spec (λ c κs. search needs) returns tbr-fits-requires returns-2 lo-requires
+    hi-requires at-both-requires returns-3 to-go-requires to-go-requires-2 returns-4)

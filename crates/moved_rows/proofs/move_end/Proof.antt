@@ -1,7 +1,6 @@
 -- `moved_rows::move_end` meets its contract. Assumes nothing.
-use mathlib.Core.Path.{sym, _∙_}
 use native.Mathlib.Omega.{arith}
-use Rattle.moves.proofs.Spr.Rows.{moveEnd-eq}
+use Rattle.moves.specs.Moves.{moveEnd}
 use Rattle.moved_rows.proofs.Fitting.{p-lt, two-rows}
 use borrow.Author.Needs.{needs}
 use Rattle.moved_rows.proofs.move_end.Statement.{statement}
@@ -15,27 +14,15 @@ others-requires c κs =
 put-end-requires : tie.Need-put-end-requires
 put-end-requires c κs =
     let st = c .before .before .before .before in
-    let K = two-rows (st .pre) (c .before .others .ensures) in
-    let len = st .pre .good .valid .len in (
-      omega (arith, K .f-lt),
-      omega (arith, K .g-lt),
-      omega (arith, st .pre .b-lt),
-      omega (arith, p-lt (st .pre)),
-    )
-
-same-length : tie.Need-same-length
-same-length c = search needs
+    omega (arith, two-rows (st .pre) (c .before .others .ensures), p-lt (st .pre))
 
 returns : tie.Need-returns
+unfolding moveEnd
 returns c =
     let at-others = c .before .before .before .before in
     let st = at-others .before .before .before in
-    let a = st .args in
     let o = at-others .others in
-    let K = two-rows (st .pre) (o .ensures) in
-    c .before .before .put-end .ensures
-    ∙ sym (moveEnd-eq (a .n) (a .t .now) (a .p) (a .a) (a .b) (o .result .f) (o .result .g)
-    (K .list))
+    rw (two-rows (st .pre) (o .ensures) .list) (c .before .before .put-end .ensures)
 
 pub move-end-spec : {M : Type 1} → statement M
-move-end-spec = tie.close (tie.spec others-requires put-end-requires same-length returns)
+move-end-spec = tie.close (tie.spec others-requires put-end-requires (λ c. search needs) returns)

@@ -134,13 +134,11 @@ passed n t m big w = go (eqb (m .kind) 1) (eqb (m .kind) 2) (eqb (m .kind) 3) re
 module _ {n : ℕ} {t : List ℕ} {m : Move} (vt : Valid n t) (k : TbrPass n t m) where
   pub low-aim : Aim n t (m .first) (lo t (m .first)) (m .second)
   low-aim =
-      aim-low n t (m .first) (m .second) (m .third) vt (k .a-lt) (k .b-lt) (k .c-lt) (k .low)
-      (k .high)
+      aim-low (m .first) (m .second) (m .third) vt (k .a-lt) (k .b-lt) (k .c-lt) (k .low) (k .high)
 
   pub high-aim : Aim n t (m .first) (hi t (m .first)) (m .third)
   high-aim =
-      aim-high n t (m .first) (m .second) (m .third) vt (k .a-lt) (k .b-lt) (k .c-lt) (k .low)
-      (k .high)
+      aim-high (m .first) (m .second) (m .third) vt (k .a-lt) (k .b-lt) (k .c-lt) (k .low) (k .high)
 
 -- ---- the table and the papers' distance, by the kind
 module _ (n : ℕ) (t : List ℕ) (m : Move) where
@@ -171,22 +169,22 @@ module _ (n : ℕ) (t : List ℕ) (m : Move) where
   rule-tbr Y e = rw e
 
 -- ---- the table stays valid
-pub moved-valid : (n : ℕ) (t : List ℕ) (m : Move)
+pub moved-valid : {n : ℕ} {t : List ℕ} (m : Move)
     → Valid n t
     → Pass (moveChecks n t m)
     → Valid n (moved n t m)
-moved-valid n t m vt w = go (passed n t m (vt .big) w)
+moved-valid {n} {t} m vt w = go (passed n t m (vt .big) w)
   where
     go : Passed n t m → Valid n (moved n t m)
     go (by-nni k) =
         rw (moved-nni n t m (k .kind-is))
-        (nni-valid n t (m .first) (m .second) (m .third) vt (k .e-lt) (k .x-lt) (k .y-lt) (k .fit))
+        (nni-valid (m .first) (m .second) (m .third) vt (k .e-lt) (k .x-lt) (k .y-lt) (k .fit))
     go (by-spr k) =
         rw (moved-spr n t m (k .kind-is))
-        (spr-valid n t (m .first) (m .second) vt (k .a-lt) (k .b-lt) (k .ab) (k .away))
+        (spr-valid (m .first) (m .second) vt (k .a-lt) (k .b-lt) (k .ab) (k .away))
     go (by-tbr k) =
         rw (moved-tbr n t m (k .kind-is))
-        (tbr-valid n t (m .first) (m .second) (m .third) vt (k .a-lt) (k .b-lt) (k .c-lt) (k .low)
+        (tbr-valid (m .first) (m .second) (m .third) vt (k .a-lt) (k .b-lt) (k .c-lt) (k .low)
         (k .high))
 
 -- so what no check of a tree refused none refuses afterwards
@@ -194,7 +192,7 @@ pub moved-accepted : (n : ℕ) (t : List ℕ) (m : Move)
     → Accepted n t
     → Pass (moveChecks n t m)
     → Accepted n (moved n t m)
-moved-accepted n t m a w = valid-accepted (a .few) (moved-valid n t m (a .valid) w)
+moved-accepted n t m a w = valid-accepted (a .few) (moved-valid m (a .valid) w)
 
 -- ---- the distance over any set of taxa is the papers' rule
 pub moved-dist : (n : ℕ) (t : List ℕ) (m : Move)
@@ -207,12 +205,12 @@ moved-dist n t m vt w Y bound = go (passed n t m (vt .big) w)
     go : Passed n t m → dist n t (moved n t m) Y ≡ moveRule n t m Y
     go (by-nni k) =
         rw (moved-nni n t m (k .kind-is), rule-nni n t m Y (k .kind-is))
-        (nni-dist n t (m .first) (m .second) (m .third) vt (k .e-lt) (k .x-lt) (k .y-lt)
+        (nni-dist (m .first) (m .second) (m .third) vt (k .e-lt) (k .x-lt) (k .y-lt)
         (k .fit) Y bound)
     go (by-spr k) =
         rw (moved-spr n t m (k .kind-is), rule-spr n t m Y (k .kind-is))
-        (spr-dist n t (m .first) (m .second) vt (k .a-lt) (k .b-lt) (k .ab) (k .away) Y bound)
+        (spr-dist (m .first) (m .second) vt (k .a-lt) (k .b-lt) (k .ab) (k .away) Y bound)
     go (by-tbr k) =
         rw (moved-tbr n t m (k .kind-is), rule-tbr n t m Y (k .kind-is))
-        (tbr-dist n t (m .first) (m .second) (m .third) vt (k .a-lt) (k .b-lt) (k .c-lt) (k .low)
+        (tbr-dist (m .first) (m .second) (m .third) vt (k .a-lt) (k .b-lt) (k .c-lt) (k .low)
         (k .high) Y bound)

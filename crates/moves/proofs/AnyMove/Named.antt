@@ -137,19 +137,19 @@ tbr-rest {n} {t} {a} {b} {c} low high r h =
         (sym (mem-append r (stayNamed n t (lo t a) a b) (stayNamed n t (hi t a) a c)) ∙ h)
 
 -- every row that is not named for the move keeps both its ends
-pub moved-rest : (n : ℕ) (t : List ℕ) (m : Move)
+pub moved-rest : {n : ℕ} {t : List ℕ} (m : Move)
     → Valid n t
     → Pass (moveChecks n t m)
     → (r : ℕ) → mem r (named n t m) ≡ false
     → (lo (moved n t m) r ≡ lo t r) × (hi (moved n t m) r ≡ hi t r)
 unfolding named spr
-moved-rest n t m vt w r h = go (passed n t m (vt .big) w)
+moved-rest {n} {t} m vt w r h = go (passed n t m (vt .big) w)
   where
     go : Passed n t m → SameRow t (moved n t m) r
     go (by-nni k) =
         let a = not-on r (m .second) (m .third ∷ []) (rw (k .kind-is) at h) in
         let b = not-on r (m .third) [] (a .1) in
-        let after = nni-rest n t (m .first) (m .second) (m .third) vt (k .e-lt) (k .x-lt) (k .y-lt)
+        let after = nni-rest (m .first) (m .second) (m .third) vt (k .e-lt) (k .x-lt) (k .y-lt)
         (k .fit) in
         rw (moved-nni n t m (k .kind-is)) (after .rest r (a .0) (b .0))
     go (by-spr k) =

@@ -110,12 +110,12 @@ pub record PlanRight (n : ℕ) (t : List ℕ) (p : Plan) : Type 0 where
   pub stay : p .nni ≡ true → (p .first .goes ≡ false) × (p .second .goes ≡ false)
 
 -- The end of an SPR lies with its target.
-spr-target : (n : ℕ) (t : List ℕ) (p a b : ℕ) → EndFits n t p a b → target n t a p b ≡ true
+spr-target : {n : ℕ} {t : List ℕ} {p a b : ℕ} → EndFits n t p a b → target n t a p b ≡ true
 unfolding target
-spr-target n t p a b k =
-    let lo-lt = valid-table n t (k .valid) .ends b (k .b-lt) .0 in
+spr-target {n} {t} {p} {a} {b} k =
+    let lo-lt = valid-table (k .valid) .ends b (k .b-lt) .0 in
     let a-row = touch-joins t a p (k .a-p) in
-    let there = two-sides n t a p (far t a p) (k .valid) (k .a-lt) a-row (lo t b) lo-lt in
+    let there = two-sides a p (far t a p) (k .valid) (k .a-lt) a-row (lo t b) lo-lt in
     rw (le-ltb p n (k .inner), ne-eqb b a (k .ba))
     (not-false (has (part n t a p) (lo t b)) (sym there ∙ k .b-out))
 
@@ -140,7 +140,7 @@ plan-right {n} {t} {p} vt k = go (passed n t m (vt .big) (k .fits))
         to (nniPlan t a (m .second) (m .third)) (k .is ∙ plan-nni n t m (q .kind-is))
         (record {
           row = q .e-lt;
-          ends = far-lo n t a vt (q .e-lt);
+          ends = far-lo a vt (q .e-lt);
           first = record { touch = lo-touch t a; row = q .x-lt; aim = λ h. absurd (false≢true h) };
           second = record { touch = hi-touch t a; row = q .y-lt; aim = λ h. absurd (false≢true h) };
           inner = λ h. (w .lo-inner, w .hi-inner);
@@ -148,17 +148,13 @@ plan-right {n} {t} {p} vt k = go (passed n t m (vt .big) (k .fits))
         })
     go (by-spr q) =
         let e = endWith n t a (m .second) in
-        let f = spr-fits n t a (m .second) vt (q .a-lt) (q .b-lt) (q .ab) (q .away) in
+        let f = spr-fits a (m .second) vt (q .a-lt) (q .b-lt) (q .ab) (q .away) in
         let j = touch-joins t a e (f .a-p) in
         to (sprPlan n t a (m .second)) (k .is ∙ plan-spr n t m (q .kind-is))
         (record {
           row = q .a-lt;
           ends = refl;
-          first = record {
-            touch = f .a-p;
-            row = q .b-lt;
-            aim = λ h. (spr-target n t e a (m .second) f, q .away);
-          };
+          first = record { touch = f .a-p; row = q .b-lt; aim = λ h. (spr-target f, q .away) };
           second = record {
             touch = joins-touch t a (far t a e) e (joins-flip t a e (far t a e) j);
             row = q .b-lt;
@@ -171,7 +167,7 @@ plan-right {n} {t} {p} vt k = go (passed n t m (vt .big) (k .fits))
         to (tbrPlan t a (m .second) (m .third)) (k .is ∙ plan-tbr n t m (q .kind-is))
         (record {
           row = q .a-lt;
-          ends = far-lo n t a vt (q .a-lt);
+          ends = far-lo a vt (q .a-lt);
           first = record {
             touch = lo-touch t a;
             row = q .b-lt;

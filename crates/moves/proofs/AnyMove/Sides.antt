@@ -107,13 +107,13 @@ module _ {n : ℕ} {t t′ : List ℕ} {e : ℕ} {P Q : End} (k : Exchange n t t
       on-P : Hung n t P A B
       on-P = record {
         by-row = hA;
-        by-third = hangs n t f p c (k .valid) (k .at-P .f-lt) (k .at-P .f-row);
+        by-third = hangs f p c (k .valid) (k .at-P .f-lt) (k .at-P .f-row);
       }
 
       on-Q : Hung n t Q C (part n t g d)
       on-Q = record {
         by-row = hC;
-        by-third = hangs n t g q d (k .valid) (k .at-Q .f-lt) (k .at-Q .f-row);
+        by-third = hangs g q d (k .valid) (k .at-Q .f-lt) (k .at-Q .f-row);
       }
 
       four : Four n t P Q A B C (part n t g d)
@@ -140,23 +140,23 @@ module _ {n : ℕ} {t t′ : List ℕ} {e : ℕ} {P Q : End} (k : Exchange n t t
 -- the sets after x and y have exchanged their ends p and q
 swapped-sides : {n : ℕ} {t : List ℕ} {e x y p q : ℕ} → NniFit n t e x y p q
     → NniSides n t (swapped t x y p q) e x y p q
-swapped-sides {n} {t} {e} {x} {y} {p} {q} k =
-    let w = exchange k (third-P k .row) (third-Q k .row) (third-P k .fork) (third-Q k .fork) in
+swapped-sides k =
+    let w = exchange k (third-P k .fork) (third-Q k .fork) in
     record {
-      keeps = λ j S d h. swap-parts w j S d h;
+      keeps = λ j S d h. swap-parts w d h;
       with-p = exchange-e w;
       with-q = λ E A C pE Eq hA hC. exchange-e (turn w) E C A pE Eq hC hA;
     }
 
 -- the sets after an NNI whose rows fit
-pub nni-sides : (n : ℕ) (t : List ℕ) (e x y : ℕ) → Valid n t
+pub nni-sides : {n : ℕ} {t : List ℕ} (e x y : ℕ) → Valid n t
     → e < rows n
     → x < rows n
     → y < rows n
     → nniFits n t e x y ≡ true
     → NniSides n t (nni t e x y) e x y (endOn t e x) (far t e (endOn t e x))
-nni-sides n t e x y vt le lx ly h =
-    rw (nni-eq t e x y) (swapped-sides (nni-fit n t e x y vt le lx ly h))
+nni-sides {n} {t} e x y vt le lx ly h =
+    rw (nni-eq t e x y) (swapped-sides (nni-fit e x y vt le lx ly h))
 
 -- ---- an end that moves
 -- the taxa of a set with M and the inner node p exchanged
@@ -234,11 +234,10 @@ module _ {n : ℕ} {t : List ℕ} {p a b f g : ℕ} (k : EndFits n t p a b) (K :
   -- the same named from f, and from g
   by-f : Fork n t p f a g (far t f p) (far t a p) (far t g p)
   by-f =
-      fork-turn (joins-differ n t f (k .valid) (K .f-lt) p (far t f p) (fk .x-row))
-      (fork-swap n t p a f g (far t a p) (far t f p) (far t g p) fk)
+      fork-turn (joins-differ f (k .valid) (K .f-lt) p (far t f p) (fk .x-row)) (fork-swap fk)
 
   by-g : Fork n t p g a f (far t g p) (far t a p) (far t f p)
-  by-g = fork-turn (joins-differ n t g (k .valid) (K .g-lt) p (far t g p) (fk .f-row)) fk
+  by-g = fork-turn (joins-differ g (k .valid) (K .g-lt) p (far t g p) (fk .f-row)) fk
 
   -- the move, with b's smaller end taken for the nearer to p, and with its
   -- larger
@@ -266,10 +265,10 @@ module _ {n : ℕ} {t : List ℕ} {p a b f g : ℕ} (k : EndFits n t p a b) (K :
 
   -- b's ends are nodes
   lo-lt : lo t b < nodes n
-  lo-lt = valid-table n t (k .valid) .ends b (k .b-lt) .0
+  lo-lt = valid-table (k .valid) .ends b (k .b-lt) .0
 
   hi-lt : hi t b < nodes n
-  hi-lt = valid-table n t (k .valid) .ends b (k .b-lt) .1
+  hi-lt = valid-table (k .valid) .ends b (k .b-lt) .1
 
   -- what hangs from p by f, and by g
   A : ℕ
@@ -280,11 +279,11 @@ module _ {n : ℕ} {t : List ℕ} {p a b f g : ℕ} (k : EndFits n t p a b) (K :
 
   hA : Hangs n t f p A
   unfolding A
-  hA = hangs n t f p (far t f p) (k .valid) (K .f-lt) (fk .x-row)
+  hA = hangs f p (far t f p) (k .valid) (K .f-lt) (fk .x-row)
 
   hB : Hangs n t g p B
   unfolding B
-  hB = hangs n t g p (far t g p) (k .valid) (K .g-lt) (fk .f-row)
+  hB = hangs g p (far t g p) (k .valid) (K .g-lt) (fk .f-row)
 
   -- b lies beyond f where f leads to it, and not where it does not
   b-in-f : leads n t b p f ≡ true → has A (lo t b) ≡ true
@@ -304,51 +303,51 @@ module _ {n : ℕ} {t : List ℕ} {p a b f g : ℕ} (k : EndFits n t p a b) (K :
 
   -- b's sets have p with the end that p lies with
   b-parts : Parts n t b (part n t b (lo t b))
-  b-parts = row-parts n t (k .valid .big) (valid-table n t (k .valid)) b (k .b-lt)
+  b-parts = row-parts (k .valid .big) (valid-table (k .valid)) b (k .b-lt)
 
-  at-lo : (S : ℕ) → has (part n t b (lo t b)) p ≡ true → Parts n t b S → has S p ≡ has S (lo t b)
-  at-lo S h q =
+  at-lo : {S : ℕ} → has (part n t b (lo t b)) p ≡ true → Parts n t b S → has S p ≡ has S (lo t b)
+  at-lo h q =
       agree (k .valid) q b-parts p (lo t b) (fk .p-lt) lo-lt (h ∙ sym (part-start n t b (lo t b)))
 
-  at-hi : (S : ℕ) → has (part n t b (lo t b)) p ≡ false → Parts n t b S → has S p ≡ has S (hi t b)
-  at-hi S h q =
-      let hi-out = ends-parted n t b (lo t b) (hi t b) (k .valid) (k .b-lt) (inl (refl, refl)) in
+  at-hi : {S : ℕ} → has (part n t b (lo t b)) p ≡ false → Parts n t b S → has S p ≡ has S (hi t b)
+  at-hi h q =
+      let hi-out = ends-parted b (lo t b) (hi t b) (k .valid) (k .b-lt) (inl (refl, refl)) in
       agree (k .valid) q b-parts p (hi t b) (fk .p-lt) hi-lt (h ∙ sym hi-out)
 
   -- the sets after the three rows have been put
   end-sides : EndSides n t (after k K) p b f g M
   end-sides = record {
     keeps = λ j S jf jg jb q h.
-        keep-parts (near-lo by-f) j S (record { not-w = jf; not-h = jg; not-b = jb }) q h;
+        keep-parts (near-lo by-f) (record { not-w = jf; not-h = jg; not-b = jb }) q h;
     crosses = λ j S l jf jg jb q h.
         let ja : j ≡ a → ⊥
         = λ d. not-self (has S p) (not-a S (subst (λ (i : ℕ). Parts n t i S) d q) ∙ h) in
-        cross-parts (near-hi by-f) j S
+        cross-parts (near-hi by-f)
         (record { lt = l; not-a = ja; not-w = jf; not-h = jg }) jb q h;
     f-from-g = λ S h q.
         let out = no-common fk hA hB (k .valid) (lo t b) lo-lt (b-in-f h) in
-        hang-parts (near-lo by-f) S q
+        hang-parts (near-lo by-f) q
         (agree (k .valid) q (hB .parts) p (lo t b) (fk .p-lt) lo-lt (hB .out ∙ sym out));
     f-from-f = λ S h q.
-        hang-parts (near-lo by-g) S q
+        hang-parts (near-lo by-g) q
         (agree (k .valid) q (hA .parts) p (lo t b) (fk .p-lt) lo-lt (hA .out ∙ sym (b-out-f h)));
-    low-g = λ S h q. far-parts (near-lo by-f) S q (at-lo S h q);
-    low-b = λ S h q. near-parts (near-lo by-f) S q (at-lo S h q);
-    high-b = λ S h q. far-parts (near-hi by-f) S q (at-hi S h q);
-    high-g = λ S h q. near-parts (near-hi by-f) S q (at-hi S h q);
+    low-g = λ S h q. far-parts (near-lo by-f) q (at-lo h q);
+    low-b = λ S h q. near-parts (near-lo by-f) q (at-lo h q);
+    high-b = λ S h q. far-parts (near-hi by-f) q (at-hi h q);
+    high-g = λ S h q. near-parts (near-hi by-f) q (at-hi h q);
   }
 
 -- the sets after an end has moved onto a row that fits
-pub move-end-sides : (n : ℕ) (t : List ℕ) (p a b : ℕ)
+pub move-end-sides : {n : ℕ} {t : List ℕ} {p a b : ℕ}
     → EndFits n t p a b
     → EndMoved n t (moveEnd n t p a b) p a b
 unfolding after
-move-end-sides n t p a b k =
+move-end-sides {n} {t} {p} {a} {b} k =
     let w = end-rows k in
     rw (moveEnd-eq n t p a b (w .0) (w .1) (w .2 .list), w .2 .list) (end-sides k (w .2))
 
 -- and after an SPR
-pub spr-sides : (n : ℕ) (t : List ℕ) (a b : ℕ)
+pub spr-sides : {n : ℕ} {t : List ℕ} (a b : ℕ)
     → Valid n t
     → a < rows n
     → b < rows n
@@ -356,8 +355,8 @@ pub spr-sides : (n : ℕ) (t : List ℕ) (a b : ℕ)
     → touches t b (endWith n t a b) ≡ false
     → EndMoved n t (spr n t a b) (endWith n t a b) a b
 unfolding spr
-spr-sides n t a b vt la lb ab tb =
-    move-end-sides n t (endWith n t a b) a b (spr-fits n t a b vt la lb ab tb)
+spr-sides a b vt la lb ab tb =
+    move-end-sides (spr-fits a b vt la lb ab tb)
 
 -- ---- TBR
 -- An end p of row a whose target b touches it stays, and the table is as
@@ -373,18 +372,18 @@ stay-sides : (n : ℕ) (t : List ℕ) (p a b : ℕ)
 unfolding stayOr
 stay-sides n t p a b k = record {
   stays = λ h. rw h;
-  moves = λ h. rw h (move-end-sides n t p a b (k (λ e. not-both (touches t b p) e h)));
+  moves = λ h. rw h (move-end-sides (k (λ e. not-both (touches t b p) e h)));
 }
 
 -- the sets after a TBR, in two steps: first a's smaller end, then its larger
-pub tbr-sides : (n : ℕ) (t : List ℕ) (a b c : ℕ) → Valid n t → a < rows n → b < rows n → c < rows n
+pub tbr-sides : {n : ℕ} {t : List ℕ} (a b c : ℕ) → Valid n t → a < rows n → b < rows n → c < rows n
     → target n t a (lo t a) b ≡ true
     → target n t a (hi t a) c ≡ true
     → StaySides n t (stayOr n t (lo t a) a b) (lo t a) a b
     × StaySides n (stayOr n t (lo t a) a b) (tbr n t a b c) (hi t a) a c
 unfolding tbr
-tbr-sides n t a b c vt la lb lc low high =
-    let A = aim-low n t a b c vt la lb lc low high in
-    let B = aim-high n t a b c vt la lb lc low high in
+tbr-sides {n} {t} a b c vt la lb lc low high =
+    let A = aim-low a b c vt la lb lc low high in
+    let B = aim-high a b c vt la lb lc low high in
     let t₁ = stayOr n t (lo t a) a b in
     (stay-sides n t (lo t a) a b (side-fits A), stay-sides n t₁ (hi t a) a c (next-fits A B))

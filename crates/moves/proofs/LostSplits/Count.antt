@@ -189,7 +189,7 @@ module _ {n y w : ℕ} {gs xs ys : List ℕ} (k : Chain n y w gs xs ys) where
     pub chain-lost : lacks xs ys ≡ met y gs - 2
     chain-lost =
         lacks-list xs ys (lost n y w [] gs) (k .asc) (lost-distinct k mw gs [] refl) only-lost
-        (λ x m. lost-is k mw x (lost-in k gs [] refl x m))
+        (λ x m. lost-is k mw (lost-in k gs [] refl x m))
         ∙ lost-length n y w gs []
 
 -- what xs lacks of ys

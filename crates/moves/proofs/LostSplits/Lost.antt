@@ -218,9 +218,9 @@ module _ {n y w : ℕ} {gs xs ys : List ℕ} (k : Chain n y w gs xs ys) where
         go ih false = ih
 
     -- such a split is in xs, and crosses one of ys
-    pub lost-is : (x : ℕ) → Lost x [] → (mem x xs ≡ true) × (mem x ys ≡ false)
+    pub lost-is : {x : ℕ} → Lost x [] → (mem x xs ≡ true) × (mem x ys ≡ false)
     unfolding inSome
-    lost-is x v = (in-xs, go (either (mem x ys)))
+    lost-is {x} v = (in-xs, go (either (mem x ys)))
       where
         cs : List ℕ
         cs = v .front

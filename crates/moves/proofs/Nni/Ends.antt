@@ -48,17 +48,17 @@ module _ {n : ℕ} {t : List ℕ} {e q : ℕ} {P : End} (k : EndAt n t e P q)
   Z = joined A B p
 
   pub e-parts : Parts n t e Z
-  e-parts = joined-parts n t p e x f q a c k A B (h .by-row) (h .by-third)
+  e-parts = joined-parts k (h .by-row) (h .by-third)
 
   pub e-in : has Z p ≡ true
-  e-in = joined-in n t p e x f q a c k A B (h .by-row) (h .by-third)
+  e-in = joined-in k (h .by-row) (h .by-third)
 
   -- a group does not cross e
   pub row-out : has A q ≡ false
-  row-out = A-at-q n t p e x f q a c k A B (h .by-row) (h .by-third)
+  row-out = A-at-q k (h .by-row) (h .by-third)
 
   pub third-out : has B q ≡ false
-  third-out = B-at-q n t p e x f q a c k A B (h .by-row) (h .by-third)
+  third-out = B-at-q k (h .by-row) (h .by-third)
 
   module _ (vt : Valid n t) (Y : ℕ) (bound : Y < 2 ^ n) where
     pub num-e : num n t Y e ≡ split n Y Z
@@ -67,7 +67,7 @@ module _ {n : ℕ} {t : List ℕ} {e q : ℕ} {P : End} (k : EndAt n t e P q)
     -- on Y, what lies with p is in one of the two
     on-Y : (i : ℕ) → has Y i ≡ true → has Z i ≡ (has A i || has B i)
     on-Y i hY =
-        joined-at n t p e x f q a c k A B (h .by-row) (h .by-third) i (has-below n Y i bound hY)
+        joined-at k (h .by-row) (h .by-third) i (has-below n Y i bound hY)
 
     -- where one of the two misses Y, row e's split is the other's row's
     pub miss-row : Miss Y A → num n t Y e ≡ num n t Y f

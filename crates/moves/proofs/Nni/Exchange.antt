@@ -15,7 +15,7 @@ use Rattle.tree.specs.Splits.{splits}
 use Rattle.tree.proofs.Joins.{join-flat, flat-join, join-apart, apart-join}
 use Rattle.tree.proofs.Bridges.{Table}
 use Rattle.tree.proofs.Colourings.{Parts, Hangs, row-parts, valid-table}
-use Rattle.tree.proofs.SplitLaws.{num, kept-in, kept-out}
+use Rattle.tree.proofs.SplitLaws.{num, kept-in, KeptRow, kept-out}
 use Rattle.moves.proofs.Rows.Splits.{row-num}
 use Rattle.moves.proofs.Rows.Ends.{SameRow}
 use Rattle.moves.proofs.Nni.Ends.{End, EndAt, traded, Hung, row-out, third-out}
@@ -80,14 +80,14 @@ module _ {n : ℕ} {t t′ : List ℕ} {e : ℕ} {P Q : End} (k : Exchange n t t
   open End Q using (node as q, row as y, far as b, third as g, last as d)
 
   pub tab : Table n t
-  tab = valid-table n t (k .valid)
+  tab = valid-table (k .valid)
 
   pub tab′ : Table n t′
-  tab′ = valid-table n t′ (k .valid′)
+  tab′ = valid-table (k .valid′)
 
   -- every other row keeps its set
-  pub swap-parts : (r s : ℕ) → (r ≡ e → ⊥) → Parts n t r s → Parts n t′ r s
-  swap-parts r s re h = record {
+  pub swap-parts : {r s : ℕ} → (r ≡ e → ⊥) → Parts n t r s → Parts n t′ r s
+  swap-parts {r} {s} re h = record {
     apart = cut (either (eqb r x)) (either (eqb r y));
     closed = λ r′ l d. flat r′ l d (either (eqb r′ x)) (either (eqb r′ y));
   }
@@ -129,8 +129,8 @@ module _ {n : ℕ} {t t′ : List ℕ} {e : ℕ} {P Q : End} (k : Exchange n t t
   pub same-num : (Y r : ℕ) → Y < 2 ^ n → r < rows n → (r ≡ e → ⊥) → num n t Y r ≡ num n t′ Y r
   same-num Y r bound h d =
       let s = part n t r (lo t r) in
-      let w = row-parts n t (k .valid .big) tab r h in
-      row-num (k .valid) Y bound h w ∙ sym (row-num (k .valid′) Y bound h (swap-parts r s d w))
+      let w = row-parts (k .valid .big) tab r h in
+      row-num (k .valid) Y bound h w ∙ sym (row-num (k .valid′) Y bound h (swap-parts d w))
 
   -- a split of t that comes from another row than e is one of t′
   pub stays : (Y z r : ℕ) → Y < 2 ^ n → r < rows n → (r ≡ e → ⊥)
@@ -142,15 +142,14 @@ module _ {n : ℕ} {t t′ : List ℕ} {e : ℕ} {P Q : End} (k : Exchange n t t
       → (z : ℕ) → mem z (splits n t Y) ≡ true → mem z (splits n t′ Y) ≡ true
   all-stay Y r₀ bound h d w z m = go (kept-out n t Y bound z m)
     where
-      go : (r : ℕ) × (r < rows n) × (some z ≡ true) × (z ≡ num n t Y r)
-          → mem z (splits n t′ Y) ≡ true
-      go v = at (either (eqb (v .0) e))
+      go : KeptRow n t Y z → mem z (splits n t′ Y) ≡ true
+      go v = at (either (eqb (v .row) e))
         where
-          at : Either (eqb (v .0) e) → mem z (splits n t′ Y) ≡ true
+          at : Either (eqb (v .row) e) → mem z (splits n t′ Y) ≡ true
           at (inl u) =
-              stays Y z r₀ bound h (λ i. d (sym i)) (v .2)
-              (v .3 ∙ ap (num n t Y) (eqb-true (v .0) e u) ∙ w)
-          at (inr u) = stays Y z (v .0) bound (v .1) (eqb-false (v .0) e u) (v .2) (v .3)
+              stays Y z r₀ bound h (λ i. d (sym i)) (v .kept)
+              (v .is ∙ ap (num n t Y) (eqb-true (v .row) e u) ∙ w)
+          at (inr u) = stays Y z (v .row) bound (v .lt) (eqb-false (v .row) e u) (v .kept) (v .is)
 
   module _ {A B C D : ℕ} (four : Four n t P Q A B C D) where
     -- what hangs from the two ends
@@ -175,7 +174,7 @@ module _ {n : ℕ} {t t′ : List ℕ} {e : ℕ} {P Q : End} (k : Exchange n t t
     -- a row other than e, at a node that its set does not hold, has that set
     -- hang there after the exchange too
     still : (r s v : ℕ) → (e ≡ r → ⊥) → Parts n t r s → has s v ≡ false → Hangs n t′ r v s
-    still r s v d h out = record { parts = swap-parts r s (λ w. d (sym w)) h; out = out }
+    still r s v d h out = record { parts = swap-parts (λ w. d (sym w)) h; out = out }
 
     -- the groups hang the same way after the exchange
     pub four-flip : Four n t′ (traded P Q) (traded Q P) C B A D

@@ -66,18 +66,18 @@ module _ {n : ℕ} {t t′ : List ℕ} {e : ℕ} {P Q : End} (k : Exchange n t t
   onQ = four .on-Q
 
   -- where a group misses Y, every split stays
-  missed : (Y : ℕ) → Y < 2 ^ n → OneMissed Y A B C D
+  missed : {Y : ℕ} → Y < 2 ^ n → OneMissed Y A B C D
       → (z : ℕ) → mem z (splits n t Y) ≡ true → mem z (splits n t′ Y) ≡ true
-  missed Y bound (miss-A m) =
+  missed {Y} bound (miss-A m) =
       all-stay k Y f bound (k .at-P .f-lt) (k .at-P .ef)
       (miss-row (k .at-P) onP (k .valid) Y bound m)
-  missed Y bound (miss-B m) =
+  missed {Y} bound (miss-B m) =
       all-stay k Y x bound (k .at-P .x-lt) (k .at-P .ex)
       (miss-third (k .at-P) onP (k .valid) Y bound m)
-  missed Y bound (miss-C m) =
+  missed {Y} bound (miss-C m) =
       all-stay k Y g bound (k .at-Q .f-lt) (k .at-Q .ef)
       (miss-row (k .at-Q) onQ (k .valid) Y bound m)
-  missed Y bound (miss-D m) =
+  missed {Y} bound (miss-D m) =
       all-stay k Y y bound (k .at-Q .x-lt) (k .at-Q .ex)
       (miss-third (k .at-Q) onQ (k .valid) Y bound m)
 
@@ -182,7 +182,7 @@ module _ {n : ℕ} {t t′ : List ℕ} {e : ℕ} {P Q : End} (k : Exchange n t t
     no-row : (r : ℕ) → r < rows n → num n t Y e ≡ num n t′ Y r → ⊥
     no-row r h w =
         let e-after = e-parts (k .at-P′) (four-flip k four .on-P) in
-        let u = never-cross n t′ r e s Z₁ (k .valid′) h (k .at-P .e-lt) rp e-after in
+        let u = never-cross (k .valid′) h (k .at-P .e-lt) rp e-after in
         let v = corner (u .0) (u .1) (either (sA ⊕ u .0)) in
         u .2 (v .0) (v .1) (v .2) (v .3)
       where
@@ -193,7 +193,7 @@ module _ {n : ℕ} {t t′ : List ℕ} {e : ℕ} {P Q : End} (k : Exchange n t t
         sA = has s (mA .taxon)
 
         rp : Parts n t′ r s
-        rp = row-parts n t′ (k .valid′ .big) (tab′ k) r h
+        rp = row-parts (k .valid′ .big) (tab′ k) r h
 
         eqn : split n Y Z₀ ≡ split n Y s
         eqn =
@@ -244,7 +244,9 @@ module _ {n : ℕ} {t t′ : List ℕ} {e : ℕ} {P Q : End} (k : Exchange n t t
         z₀ = num n t Y e
 
         gone : Either (mem z₀ (splits n t′ Y)) → mem z₀ (splits n t′ Y) ≡ false
-        gone (inl w) = let v = kept-out n t′ Y bound z₀ w in absurd (no-row (v .0) (v .1) (v .3))
+        gone (inl w) =
+            let v = kept-out n t′ Y bound z₀ w in
+            absurd (no-row (v .row) (v .lt) (v .is))
         gone (inr w) = w
 
         others : (z : ℕ)
@@ -253,7 +255,7 @@ module _ {n : ℕ} {t t′ : List ℕ} {e : ℕ} {P Q : End} (k : Exchange n t t
             → mem z (splits n t′ Y) ≡ true
         others z m w =
             let v = kept-out n t Y bound z m in
-            stays k Y z (v .0) bound (v .1) (λ u. w (v .3 ∙ ap (num n t Y) u)) (v .2) (v .3)
+            stays k Y z (v .row) bound (v .lt) (λ u. w (v .is ∙ ap (num n t Y) u)) (v .kept) (v .is)
 
 -- ---- Proposition 1: where one of the four groups misses Y nothing changes,
 -- and where all four meet Y one split is lost and one is new
@@ -262,10 +264,9 @@ module _ {n : ℕ} {t t′ : List ℕ} {e : ℕ} {P Q : End} (k : Exchange n t t
   pub exchange-same : OneMissed Y A B C D → dist n t t′ Y ≡ 0
   unfolding distBy
   exchange-same m =
-      ap₂ _+_
-      (lacks-none (splits n t Y) (splits n t′ Y) (missed k four Y bound m))
+      ap₂ _+_ (lacks-none (splits n t Y) (splits n t′ Y) (missed k four bound m))
       (lacks-none (splits n t′ Y) (splits n t Y)
-      (missed (flip k) (four-flip k four) Y bound (back m)))
+      (missed (flip k) (four-flip k four) bound (back m)))
     where
       back : OneMissed Y A B C D → OneMissed Y C B A D
       back (miss-A m) = miss-C m

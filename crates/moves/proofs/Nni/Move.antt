@@ -61,7 +61,7 @@ module _ {n : ℕ} {t t′ : List ℕ} {e x y p q : ℕ} (k : NniFit n t e x y p
       }
     where
       px : p ≡ far t x p → ⊥
-      px = joins-differ n t x (k .valid) (k .x-lt) p (far t x p) (w .x-before)
+      px = joins-differ x (k .valid) (k .x-lt) p (far t x p) (w .x-before)
 
       go : (r : ℕ) → r < rows n → (r ≡ e → ⊥) → (r ≡ y → ⊥) → (r ≡ f → ⊥) → Either (eqb r x)
           → (p ≡ lo t′ r → ⊥) × (p ≡ hi t′ r → ⊥)
@@ -81,7 +81,7 @@ module _ {n : ℕ} {t : List ℕ} {e x y p q : ℕ} (k : NniFit n t e x y p q) w
   abbrev t′ : List ℕ
   t′ = swapped t x y p q
 
-  module _ (f g : ℕ)
+  module _ {f g : ℕ}
       (P : Fork n t p e x f q (far t x p) (far t f p))
       (Q : Fork n t q e y g p (far t y q) (far t g q)) where
     thirds : f ≡ g → ⊥
@@ -125,12 +125,12 @@ module _ {n : ℕ} {t : List ℕ} {e x y p q : ℕ} (k : NniFit n t e x y p q) w
     unfolding gA gB gC gD
     four = record {
       on-P = record {
-        by-row = hangs n t x p (far t x p) (k .valid) (k .x-lt) (P .x-row);
-        by-third = hangs n t f p (far t f p) (k .valid) (P .f-lt) (P .f-row);
+        by-row = hangs x p (far t x p) (k .valid) (k .x-lt) (P .x-row);
+        by-third = hangs f p (far t f p) (k .valid) (P .f-lt) (P .f-row);
       };
       on-Q = record {
-        by-row = hangs n t y q (far t y q) (k .valid) (k .y-lt) (Q .x-row);
-        by-third = hangs n t g q (far t g q) (k .valid) (Q .f-lt) (Q .f-row);
+        by-row = hangs y q (far t y q) (k .valid) (k .y-lt) (Q .x-row);
+        by-third = hangs g q (far t g q) (k .valid) (Q .f-lt) (Q .f-row);
       };
     }
 
@@ -193,7 +193,7 @@ module _ {n : ℕ} {t : List ℕ} {e x y p q : ℕ} (k : NniFit n t e x y p q) w
   pub swapped-dist : (Y : ℕ) → Y < 2 ^ n → dist n t (swapped t x y p q) Y ≡ nniRule n t e Y
   unfolding nniRule four-met
   swapped-dist Y bound =
-      four-dist f g (third-P .fork) (third-Q .fork) Y bound
+      four-dist (third-P .fork) (third-Q .fork) Y bound
       ∙ ap (λ (m : ℕ). pick (eqb m 4) 2 0)
       (sym (met-append Y (stayed n t e (lo t e)) (stayed n t e (hi t e)) ∙ total (k .e-row)))
     where
@@ -258,13 +258,13 @@ nni-checked n t e x y h = go (leb n u) (leb n v) (eqb x e) (eqb y e) refl refl r
 
 -- a move that passes its check fits: p is the end that x has on e, q the other
 -- end of e, which is the end that y has on e
-pub nni-fit : (n : ℕ) (t : List ℕ) (e x y : ℕ) → Valid n t
+pub nni-fit : {n : ℕ} {t : List ℕ} (e x y : ℕ) → Valid n t
     → e < rows n
     → x < rows n
     → y < rows n
     → nniFits n t e x y ≡ true
     → NniFit n t e x y (endOn t e x) (far t e (endOn t e x))
-nni-fit n t e x y vt le lx ly h = go (touches t x u) refl (w .ends)
+nni-fit {n} {t} e x y vt le lx ly h = go (touches t x u) refl (w .ends)
   where
     u : ℕ
     u = lo t e
@@ -293,7 +293,7 @@ nni-fit n t e x y vt le lx ly h = go (touches t x u) refl (w .ends)
 
     not-two : touches t x u ≡ true → touches t x v ≡ true → ⊥
     not-two a b =
-        parallel n t e x u v vt le lx (w .xe) (inl (refl, refl))
+        parallel e x u v vt le lx (w .xe) (inl (refl, refl))
         (both-touch t x u v (λ d. omega (arith, vt .order e le .0)) a b)
 
     go : (b : Bool) → touches t x u ≡ b
@@ -301,18 +301,18 @@ nni-fit n t e x y vt le lx ly h = go (touches t x u) refl (w .ends)
         → NniFit n t e x y (pick b u v) (far t e (pick b u v))
     go true q (inl s) =
         let y-v = and-right (touches t x u) (touches t y v) s in
-        rw (far-lo n t e vt le) (fit u v (inl (refl, refl)) (w .lo-inner) (w .hi-inner) q y-v)
+        rw (far-lo e vt le) (fit u v (inl (refl, refl)) (w .lo-inner) (w .hi-inner) q y-v)
     go true q (inr s) = absurd (not-two q (and-left (touches t x v) (touches t y u) s))
     go false q (inl s) = absurd (true≢false (sym (and-left (touches t x u) (touches t y v) s) ∙ q))
     go false q (inr s) =
         let x-v = and-left (touches t x v) (touches t y u) s in
         let y-u = and-right (touches t x v) (touches t y u) s in
-        rw (far-hi n t e vt le) (fit v u (inr (refl, refl)) (w .hi-inner) (w .lo-inner) x-v y-u)
+        rw (far-hi e vt le) (fit v u (inr (refl, refl)) (w .hi-inner) (w .lo-inner) x-v y-u)
 
-module _ (n : ℕ) (t : List ℕ) (e x y : ℕ) (vt : Valid n t)
+module _ {n : ℕ} {t : List ℕ} (e x y : ℕ) (vt : Valid n t)
     (le : e < rows n) (lx : x < rows n) (ly : y < rows n) (h : nniFits n t e x y ≡ true) where
   fits : NniFit n t e x y (endOn t e x) (far t e (endOn t e x))
-  fits = nni-fit n t e x y vt le lx ly h
+  fits = nni-fit e x y vt le lx ly h
 
   -- the table stays valid
   pub nni-valid : Valid n (nni t e x y)

@@ -97,10 +97,10 @@ module _ {n : ℕ} {t : List ℕ} {e x y p q : ℕ} (k : NniFit n t e x y p q) w
   len₁ = length-put t x q c ∙ k .valid .len
 
   pub e-nodes : (p < nodes n) × (q < nodes n)
-  e-nodes = joins-nodes n t e (k .valid) (k .e-lt) p q (k .e-row)
+  e-nodes = joins-nodes e (k .valid) (k .e-lt) p q (k .e-row)
 
   pub pq : p ≡ q → ⊥
-  pq = joins-differ n t e (k .valid) (k .e-lt) p q (k .e-row)
+  pq = joins-differ e (k .valid) (k .e-lt) p q (k .e-row)
 
   x-row : Joins t x p c
   x-row = touch-joins t x p (k .x-p)
@@ -116,7 +116,7 @@ module _ {n : ℕ} {t : List ℕ} {e x y p q : ℕ} (k : NniFit n t e x y p q) w
       → touches t r q ≡ true
       → ⊥
   not-both r h ne a b =
-      parallel n t e r p q (k .valid) (k .e-lt) h ne (k .e-row) (both-touch t r p q pq a b)
+      parallel e r p q (k .valid) (k .e-lt) h ne (k .e-row) (both-touch t r p q pq a b)
 
   pub xy : x ≡ y → ⊥
   xy w = not-both x (k .x-lt) (k .xe) (k .x-p) (ap (λ (r : ℕ). touches t r q) w ∙ k .y-q)
@@ -179,10 +179,10 @@ module _ {n : ℕ} {t : List ℕ} {e x y p q : ℕ} (k : NniFit n t e x y p q) w
       pd w = not-both y (k .y-lt) (k .ye) (y-at-p w) (k .y-q)
 
       c-lt : c < nodes n
-      c-lt = joins-nodes n t x (k .valid) (k .x-lt) p c x-row .1
+      c-lt = joins-nodes x (k .valid) (k .x-lt) p c x-row .1
 
       d-lt : d < nodes n
-      d-lt = joins-nodes n t y (k .valid) (k .y-lt) q d y-row .1
+      d-lt = joins-nodes y (k .valid) (k .y-lt) q d y-row .1
 
       go : Either (eqb r x) → Either (eqb r y) → (lo t′ r < hi t′ r) × (hi t′ r < nodes n)
       go (inl w) u =
@@ -232,6 +232,6 @@ module _ {n : ℕ} {t : List ℕ} {e x y p q : ℕ} (k : NniFit n t e x y p q) w
     order = ord;
     leaf = λ v l. degrees v ∙ k .valid .leaf v l;
     inner = λ v h l. degrees v ∙ k .valid .inner v h l;
-    connected = connected-by n t t′ (k .valid .big) (k .valid .connected)
+    connected = connected-by t t′ (k .valid .big) (k .valid .connected)
         (λ r h. let w = ord r h in (omega arith, w .1)) flat-back;
   }

@@ -69,7 +69,7 @@ pub hang-apart : {n : ℕ} {t : List ℕ} {r u v r′ u′ v′ S S′ : ℕ}
     → has S u′ ≡ false
     → Apart n S S′
 hang-apart {n} {t} {r} {u} {v} {r′} {u′} {v′} {S} {S′} tab d a b o o′ =
-    disjoint n t r r′ S S′ tab (a .lt) (b .lt) d (a .parts) (b .parts)
+    disjoint tab (a .lt) (b .lt) d (a .parts) (b .parts)
     (out-lo t r u v S′ (a .row) o (b .parts .closed r (a .lt) d))
     (out-lo t r′ u′ v′ S (b .row) o′ (a .parts .closed r′ (b .lt) (λ w. d (sym w))))
 

@@ -23,7 +23,7 @@ module _ {n : ℕ} {t : List ℕ} {e S S′ : ℕ} (vt : Valid n t) (a : Parts n
   -- two nodes that one set of the row does not part no set of it parts
   pub agree : (i j : ℕ) → i < nodes n → j < nodes n → has S′ i ≡ has S′ j → has S i ≡ has S j
   agree i j li lj h =
-      let w = parts-unique n t e S S′ (vt .connected) (vt .big) a b in
+      let w = parts-unique (vt .connected) (vt .big) a b in
       w .1 i li ∙ ap (λ (x : Bool). w .0 ⊕ x) h ∙ sym (w .1 j lj)
 
   -- two sets of the row that both hold a node, or both not, have the same
@@ -34,7 +34,7 @@ module _ {n : ℕ} {t : List ℕ} {e S S′ : ℕ} (vt : Valid n t) (a : Parts n
       → (i : ℕ) → i < nodes n
       → has S i ≡ has S′ i
   alike v lv h i l =
-      let w = parts-unique n t e S S′ (vt .connected) (vt .big) a b in
+      let w = parts-unique (vt .connected) (vt .big) a b in
       w .1 i l ∙ ap (λ (d : Bool). d ⊕ has S′ i) (one (w .0) (has S′ v) (sym h ∙ w .1 v lv))
     where
       one : (d x : Bool) → x ≡ (d ⊕ x) → d ≡ false
@@ -48,32 +48,32 @@ pub parts-same : {n : ℕ} {t : List ℕ} {e S S′ : ℕ}
     → ((i : ℕ) → i < nodes n → has S′ i ≡ has S i)
     → Parts n t e S
     → Parts n t e S′
-parts-same {n} {t} {e} {S} {S′} vt le h q = record {
+parts-same {n} {t} {e} vt le h q = record {
   apart = h (lo t e) (ends e le .0) ∙ q .apart ∙ sym (ap not (h (hi t e) (ends e le .1)));
   closed = λ r l d. h (lo t r) (ends r l .0) ∙ q .closed r l d ∙ sym (h (hi t r) (ends r l .1));
 }
   where
     ends : (r : ℕ) → r < rows n → (lo t r < nodes n) × (hi t r < nodes n)
-    ends = valid-table n t vt .ends
+    ends = valid-table vt .ends
 
 -- the side of a row, from any set of it: its taxa where it holds the smaller
 -- end, otherwise all other taxa
-pub side-from : (n : ℕ) (t : List ℕ) (e S : ℕ)
+pub side-from : {n : ℕ} {t : List ℕ} {e S : ℕ}
     → Valid n t
     → e < rows n
     → Parts n t e S
     → side n t e ≡ pick (has S (lo t e)) (S % 2 ^ n) (less (full n) S)
 unfolding side
-side-from n t e S vt le q = go (has S (lo t e)) (xor-at-true (w .0) (has S (lo t e)) at-lo)
+side-from {n} {t} {e} {S} vt le q = go (has S (lo t e)) (xor-at-true (w .0) (has S (lo t e)) at-lo)
   where
     tab : Table n t
-    tab = valid-table n t vt
+    tab = valid-table vt
 
     L : ℕ
     L = part n t e (lo t e)
 
     w : (d : Bool) × ((i : ℕ) → i < nodes n → has S i ≡ (d ⊕ has L i))
-    w = parts-unique n t e S L (vt .connected) (vt .big) q (row-parts n t (vt .big) tab e le)
+    w = parts-unique (vt .connected) (vt .big) q (row-parts (vt .big) tab e le)
 
     at-lo : (w .0 ⊕ true) ≡ has S (lo t e)
     at-lo =

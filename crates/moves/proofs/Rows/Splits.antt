@@ -22,11 +22,11 @@ pub record Row (n : ℕ) (t : List ℕ) (c : ℕ → Bool) : Type 0 where
   pub parts : Parts n t row set
   pub is : (i : ℕ) → i < n → has set i ≡ c i
 
-pub row-eq : (n : ℕ) (t : List ℕ) (c d : ℕ → Bool)
+pub row-eq : {n : ℕ} {t : List ℕ} (c d : ℕ → Bool)
     → ((i : ℕ) → i < n → c i ≡ d i)
     → Row n t c
     → Row n t d
-row-eq n t c d h r = record {
+row-eq c d h r = record {
   row = r .row;
   set = r .set;
   lt = r .lt;
@@ -48,15 +48,15 @@ Corners y s s′ = (p q : Bool) → Corner y s s′ p q
 module _ {n : ℕ} {t : List ℕ} (vt : Valid n t) (y : ℕ) (bound : y < 2 ^ n) where
   -- a row's split is that of any set that the row parts
   pub row-num : {r S : ℕ} → r < rows n → Parts n t r S → num n t y r ≡ split n y S
-  row-num {r} {S} l q = num-of n t (vt .big) (valid-table n t vt) y r S bound l q
+  row-num {r} {S} l q = num-of (vt .big) (valid-table vt) y r S bound l q
 
   -- a set that parts y as a row does, up to the complement, has its split on
   -- the list
-  pub row-mem : (c : ℕ → Bool) (s : ℕ) (d : Bool)
+  pub row-mem : {c : ℕ → Bool} (s : ℕ) (d : Bool)
       → Row n t c
       → ((i : ℕ) → has y i ≡ true → has s i ≡ (d ⊕ c i))
       → some (split n y s) ≡ true → mem (split n y s) (splits n t y) ≡ true
-  row-mem c s d R h p =
+  row-mem {c} s d R h p =
       let as-c : (i : ℕ) → has y i ≡ true → c i ≡ has (R .set) i
       = λ i yi. sym (R .is i (has-below n y i bound yi)) in
       let same = split-eq n y s (R .set) bound d
@@ -68,7 +68,7 @@ module _ {n : ℕ} {t : List ℕ} (vt : Valid n t) (y : ℕ) (bound : y < 2 ^ n)
       → mem x (splits n t y) ≡ true
   split-mem x S q e R =
       ap (λ (v : ℕ). mem v (splits n t y)) e
-      ∙ row-mem (has S) S false R (λ i yi. refl) (ap some (sym e) ∙ q)
+      ∙ row-mem S false R (λ i yi. refl) (ap some (sym e) ∙ q)
 
   -- a split of the table comes from a row's set
   record Of (s : ℕ) : Type 0 where
@@ -81,24 +81,18 @@ module _ {n : ℕ} {t : List ℕ} (vt : Valid n t) (y : ℕ) (bound : y < 2 ^ n)
   of : (s : ℕ) → mem (split n y s) (splits n t y) ≡ true → Of s
   of s m =
       let v = kept-out n t y bound (split n y s) m in
-      let r = v .0 in
+      let r = v .row in
       let S = part n t r (lo t r) in
-      let q = row-parts n t (vt .big) (valid-table n t vt) r (v .1) in
-      record {
-        r = r;
-        S = S;
-        lt = v .1;
-        parts = q;
-        same = v .3 ∙ row-num (v .1) q;
-      }
+      let q = row-parts (vt .big) (valid-table vt) r (v .lt) in
+      record { r = r; S = S; lt = v .lt; parts = q; same = v .is ∙ row-num (v .lt) q }
 
   -- that set is s up to the complement, as far as y goes
-  like : (s : ℕ) (R : Of s) (i₀ : ℕ)
+  like : {s : ℕ} (R : Of s) (i₀ : ℕ)
       → has y i₀ ≡ true
       → has s i₀ ≡ true
       → (i : ℕ) → has y i ≡ true
       → has (R .S) i ≡ (not (has (R .S) i₀) ⊕ has s i)
-  like s R i₀ y₀ s₀ i yi =
+  like {s} R i₀ y₀ s₀ i yi =
       go (has s i) (has (R .S) i₀) (has (R .S) i)
       (ap (λ (x : Bool). x ⊕ has s i) (sym s₀) ∙ split-pairs n y s (R .S) (R .same) i₀ i y₀ yi)
     where
@@ -113,8 +107,7 @@ module _ {n : ℕ} {t : List ℕ} (vt : Valid n t) (y : ℕ) (bound : y < 2 ^ n)
       → Corners y s s′
       → ⊥
   no-cross s s′ m m′ cs =
-      let c = never-cross n t (R .r) (R′ .r) (R .S) (R′ .S) vt (R .lt) (R′ .lt) (R .parts)
-      (R′ .parts) in
+      let c = never-cross vt (R .lt) (R′ .lt) (R .parts) (R′ .parts) in
       let w = all (c .0) (c .1) in
       c .2 (w .0) (w .1) (w .2) (w .3)
     where
@@ -140,8 +133,8 @@ module _ {n : ℕ} {t : List ℕ} (vt : Valid n t) (y : ℕ) (bound : y < 2 ^ n)
       all u v =
           let c = cs (d ⊕ u) (d′ ⊕ v) in
           let i = c .taxon in
-          let S-is = like s R i₀ y₀ (cs true true .s-is) i (c .in-y) in
-          let S′-is = like s′ R′ i₀ y₀ (cs true true .s′-is) i (c .in-y) in (
+          let S-is = like R i₀ y₀ (cs true true .s-is) i (c .in-y) in
+          let S′-is = like R′ i₀ y₀ (cs true true .s′-is) i (c .in-y) in (
             i,
             omega (arith, has-below n y i bound (c .in-y)),
             S-is ∙ ap (λ (x : Bool). d ⊕ x) (c .s-is) ∙ xor-twice d u,

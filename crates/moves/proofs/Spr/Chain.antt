@@ -16,7 +16,7 @@ use Rattle.tree.specs.Lists.{mem}
 use Rattle.tree.specs.Splits.{split, splits}
 use Rattle.tree.proofs.Joins.{flat-join, apart-join}
 use Rattle.tree.proofs.Colourings.{Parts, Hangs, row-parts, valid-table}
-use Rattle.tree.proofs.SplitLaws.{split-eq, num, kept-in, kept-out, splits-asc}
+use Rattle.tree.proofs.SplitLaws.{split-eq, num, kept-in, KeptRow, kept-out, splits-asc}
 use Rattle.tree.proofs.Forks.{Fork, joined, at-c}
 use Rattle.moves.proofs.Rows.Ends.{both-in}
 use Rattle.moves.proofs.Rows.Splits.{Row, row-eq, row-num, row-mem, split-mem, no-cross}
@@ -63,7 +63,7 @@ module _ {n : ℕ} {t t′ : List ℕ} {p o a b : ℕ} {site : Site} (k : Graft 
       in-a = inside-step fork₁ (k .hM) hH a (inl refl);
       in-w = inl refl;
       in-h = inr (both-in t h p s (joined M H p) (k .fork .x-row) (behind-v fork₁ (k .hM) hH)
-          (behind-H fork₁ (k .hM) hH s (at-c n t p w a h r o s fork₁ M H (k .hM) hH)));
+          (behind-H fork₁ (k .hM) hH s (at-c fork₁ (k .hM) hH)));
     }
 
     P₁-taxa : (i : ℕ) → i < n → has P₁ i ≡ (has M i || has H i)
@@ -78,7 +78,7 @@ module _ {n : ℕ} {t t′ : List ℕ} {p o a b : ℕ} {site : Site} (k : Graft 
         (out-z way P₁ (base k inv₁))
 
     F-parts : Parts n t′ F H
-    F-parts = hang-parts k H (hH .parts) (hH .out ∙ sym H-u)
+    F-parts = hang-parts k (hH .parts) (hH .out ∙ sym H-u)
 
     first-row′ : Row n t′ (λ i. has P₁ i ⊕ has M i)
     first-row′ = record {
@@ -118,7 +118,7 @@ module _ {n : ℕ} {t t′ : List ℕ} {p o a b : ℕ} {site : Site} (k : Graft 
     rows-at′ ls bs c g e =
         let c-is : (i : ℕ) → has g₁ i ≡ has c i
         = λ i. ap (λ (x : ℕ). has x i) (head-eq-of-cons-eq e) in
-        row-eq n t′ (λ i. (has P₁ i || inSome ls i) ⊕ has M i)
+        row-eq (λ i. (has P₁ i || inSome ls i) ⊕ has M i)
         (λ i. (has M i || (has c i || inSome ls i)) ⊕ has M i)
         (λ i l. ap (λ (x : Bool). (x || inSome ls i) ⊕ has M i)
         (P₁-taxa i l ∙ ap (λ (x : Bool). has M i || x) (sym (tx i l) ∙ c-is i))
@@ -130,8 +130,8 @@ module _ {n : ℕ} {t t′ : List ℕ} {p o a b : ℕ} {site : Site} (k : Graft 
         let is : (i : ℕ) → i < n → has H i ≡ has g i
         = λ i l. sym (tx i l) ∙ ap (λ (x : ℕ). has x i) (head-eq-of-cons-eq e) in
         record {
-          before = row-eq n t (has H) (has g) is h-row;
-          after = row-eq n t′ (has H) (has g) is h-row′;
+          before = row-eq (has H) (has g) is h-row;
+          after = row-eq (has H) (has g) is h-row′;
         }
     groups-at (c ∷ ls) bs g e = group-rows k ls way bs g (tail-eq-of-cons-eq e) P₁ inv₁
 
@@ -177,8 +177,7 @@ module _ {n : ℕ} {t t′ : List ℕ} {p o a b : ℕ} {site : Site} (k : Graft 
           (λ i yi. with-is ls i yi ∙ not-swap false (has M i || inSome ls i)
           (last-is ls [] e i yi)) q)
       xs-cut ls (g ∷ bs) e q =
-          row-mem (k .valid) y bound (λ i. has M i || inSome ls i) (with-w W ls) false
-          (rows-at ls bs g e) (with-is ls) q
+          row-mem (k .valid) y bound (with-w W ls) false (rows-at ls bs g e) (with-is ls) q
 
       ys-cut : (ls bs : List ℕ) → g₁ ∷ gs ≡ ls ++ bs → some (split n y (with-w W bs)) ≡ true
           → mem (split n y (with-w W bs)) (splits n t′ y) ≡ true
@@ -191,12 +190,10 @@ module _ {n : ℕ} {t t′ : List ℕ} {p o a b : ℕ} {site : Site} (k : Graft 
           all true = refl
           all false = refl
       ys-cut (c ∷ ls) [] e q =
-          row-mem (k .valid′) y bound (has M) (with-w W []) false a-row′
+          row-mem (k .valid′) y bound (with-w W []) false a-row′
           (λ i yi. with-is [] i yi ∙ or-false (has M i)) q
       ys-cut (c ∷ ls) (g ∷ bs) e q =
-          row-mem (k .valid′) y bound (λ i. (has M i || inSome (c ∷ ls) i) ⊕ has M i)
-          (with-w W (g ∷ bs)) true
-          (rows-at′ ls bs c g e)
+          row-mem (k .valid′) y bound (with-w W (g ∷ bs)) true (rows-at′ ls bs c g e)
           (λ i yi. with-last (c ∷ ls) (g ∷ bs) e i yi ∙ turned (has M i) (inSome (c ∷ ls) i)) q
 
       -- ---- where a split comes from
@@ -252,27 +249,27 @@ module _ {n : ℕ} {t t′ : List ℕ} {p o a b : ℕ} {site : Site} (k : Graft 
           cut = ap (λ (v : List ℕ). g₁ ∷ v) (R .is)
 
       -- rows off the way keep their split
-      stays : (j : ℕ)
+      stays : {j : ℕ}
           → j < rows n
           → Untouched site b j
           → mem j xs ≡ false
           → num n t y j ≡ num n t′ y j
-      stays j l un m =
+      stays {j} l un m =
           let S = part n t j (lo t j) in
-          let q = row-parts n t (k .valid .big) (valid-table n t (k .valid)) j l in
+          let q = row-parts (k .valid .big) (valid-table (k .valid)) j l in
           let together = off-way k way j S q (un .not-w) (un .not-b) m in
           row-num (k .valid) y bound l q
-          ∙ sym (row-num (k .valid′) y bound l (keep-parts k j S un q together))
+          ∙ sym (row-num (k .valid′) y bound l (keep-parts k un q together))
 
       xs-from : (x : ℕ) → mem x (splits n t y) ≡ true → (mem x (splits n t′ y) ≡ true) ⊎ Cut x
       unfolding inSome
       xs-from x m = go (either (eqb j w)) (either (eqb j h)) (either (mem j xs))
         where
-          v : (r : ℕ) × (r < rows n) × (some x ≡ true) × (x ≡ num n t y r)
+          v : KeptRow n t y x
           v = kept-out n t y bound x m
 
           j : ℕ
-          j = v .0
+          j = v .row
 
           -- the first cut, at w
           first : j ≡ w → Cut x
@@ -281,7 +278,7 @@ module _ {n : ℕ} {t t′ : List ℕ} {p o a b : ℕ} {site : Site} (k : Graft 
             back = gs;
             cut = refl;
             is =
-                v .3
+                v .is
                 ∙ ap (num n t y) d
                 ∙ row-num (k .valid) y bound (k .fork .f-lt) (inv₁ .hang .parts)
                 ∙ split-eq n y P₁ (with-w W (g₁ ∷ [])) bound false
@@ -300,21 +297,22 @@ module _ {n : ℕ} {t t′ : List ℕ} {p o a b : ℕ} {site : Site} (k : Graft 
           go (inr q) (inl q′) q″ =
               let h-num = row-num (k .valid) y bound (k .fork .x-lt) (hH .parts) in
               let is-H = ap (num n t y) (eqb-true j h q′) ∙ h-num in
-              inl (split-mem (k .valid′) y bound x H (v .2) (v .3 ∙ is-H) h-row′)
-          go (inr q) (inr q′) (inl q″) = inr (way-cut x j (v .1) (v .3) (on-way k way P₁ inv₁ j q″))
+              inl (split-mem (k .valid′) y bound x H (v .kept) (v .is ∙ is-H) h-row′)
+          go (inr q) (inr q′) (inl q″) =
+              inr (way-cut x j (v .lt) (v .is) (on-way k way P₁ inv₁ j q″))
           go (inr q) (inr q′) (inr q″) =
               let un : Untouched site b j
               = record { not-w = eqb-false j w q; not-h = eqb-false j h q′; not-b = not-b q″ } in
-              inl (kept-in n t′ y bound x j (v .1) (v .2) (v .3 ∙ stays j (v .1) un q″))
+              inl (kept-in n t′ y bound x j (v .lt) (v .kept) (v .is ∙ stays (v .lt) un q″))
 
       ys-from : (x : ℕ) → mem x (splits n t′ y) ≡ true → (mem x (splits n t y) ≡ true) ⊎ Cut′ x
       ys-from x m = go (either (eqb j F)) (either (eqb j N)) (either (eqb j X)) (either (mem j xs))
         where
-          v : (r : ℕ) × (r < rows n) × (some x ≡ true) × (x ≡ num n t′ y r)
+          v : KeptRow n t′ y x
           v = kept-out n t′ y bound x m
 
           j : ℕ
-          j = v .0
+          j = v .row
 
           D : FarSet k
           D = far-set k way P₁ inv₁
@@ -329,7 +327,7 @@ module _ {n : ℕ} {t t′ : List ℕ} {p o a b : ℕ} {site : Site} (k : Graft 
           }
 
           X-parts : Parts n t′ X (D .set)
-          X-parts = far-parts k (D .set) (D .hang .parts) (D .p-out ∙ sym (D .hang .out))
+          X-parts = far-parts k (D .hang .parts) (D .p-out ∙ sym (D .hang .out))
 
           Rb : OnW b
           Rb = on-way k way P₁ inv₁ b (b-on-way way (λ d. k .bw (sym d)))
@@ -342,23 +340,22 @@ module _ {n : ℕ} {t t′ : List ℕ} {p o a b : ℕ} {site : Site} (k : Graft 
           go (inl q) q₁ q₂ q₃ =
               let F-num = row-num (k .valid′) y bound (k .F-lt) F-parts in
               let is-H = ap (num n t′ y) (eqb-true j F q) ∙ F-num in
-              inl (split-mem (k .valid) y bound x H (v .2) (v .3 ∙ is-H) h-row)
+              inl (split-mem (k .valid) y bound x H (v .kept) (v .is ∙ is-H) h-row)
           go (inr q) (inl q₁) q₂ q₃ =
-              inr (way-cut′ x b N (k .N-lt) (v .3 ∙ ap (num n t′ y) (eqb-true j N q₁)) Rb
-              (near-parts k (Rb .S) (Rb .parts) (Rb .p-in ∙ sym b-u)))
+              inr (way-cut′ x b N (k .N-lt) (v .is ∙ ap (num n t′ y) (eqb-true j N q₁)) Rb
+              (near-parts k (Rb .parts) (Rb .p-in ∙ sym b-u)))
           go (inr q) (inr q₁) (inl q₂) q₃ =
               let X-num = row-num (k .valid′) y bound (k .X-lt) X-parts in
               let is-D = ap (num n t′ y) (eqb-true j X q₂) ∙ X-num in
-              inl (split-mem (k .valid) y bound x (D .set) (v .2) (v .3 ∙ is-D) D-row)
+              inl (split-mem (k .valid) y bound x (D .set) (v .kept) (v .is ∙ is-D) D-row)
           go (inr q) (inr q₁) (inr q₂) (inl q₃) =
               let R = on-way k way P₁ inv₁ j q₃ in
               let un = k .keep j (eqb-false j F q) (eqb-false j N q₁) (eqb-false j X q₂) in
-              inr (way-cut′ x j j (v .1) (v .3) R
-              (cross-parts k j (R .S) (R .aside) (un .not-b) (R .parts)
+              inr (way-cut′ x j j (v .lt) (v .is) R (cross-parts k (R .aside) (un .not-b) (R .parts)
               (R .z-out ∙ sym (ap not (R .p-in)))))
           go (inr q) (inr q₁) (inr q₂) (inr q₃) =
               let un = k .keep j (eqb-false j F q) (eqb-false j N q₁) (eqb-false j X q₂) in
-              inl (kept-in n t y bound x j (v .1) (v .2) (v .3 ∙ sym (stays j (v .1) un q₃)))
+              inl (kept-in n t y bound x j (v .lt) (v .kept) (v .is ∙ sym (stays (v .lt) un q₃)))
 
       -- ---- the chain
       pub spr-chain : Chain n y W (g₁ ∷ gs) (splits n t y) (splits n t′ y)
@@ -373,15 +370,15 @@ module _ {n : ℕ} {t t′ : List ℕ} {p o a b : ℕ} {site : Site} (k : Graft 
         cut = xs-cut;
         cut′ = ys-cut;
         group = λ ls bs g e q.
-            row-mem (k .valid) y bound (has g) g false (groups-at ls bs g e .before)
+            row-mem (k .valid) y bound g false (groups-at ls bs g e .before)
             (λ i yi. refl) q;
         group′ = λ ls bs g e q.
-            row-mem (k .valid′) y bound (has g) g false (groups-at ls bs g e .after)
+            row-mem (k .valid′) y bound g false (groups-at ls bs g e .after)
             (λ i yi. refl) q;
         from = xs-from;
         from′ = ys-from;
-        kept = λ x m. kept-out n t y bound x m .2;
-        kept′ = λ x m. kept-out n t′ y bound x m .2;
+        kept = λ x m. kept-out n t y bound x m .kept;
+        kept′ = λ x m. kept-out n t′ y bound x m .kept;
         cross = no-cross (k .valid) y bound;
         cross′ = no-cross (k .valid′) y bound;
       }

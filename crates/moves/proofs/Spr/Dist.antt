@@ -39,10 +39,10 @@ module _ {n : ℕ} {t : List ℕ} {p a b f g : ℕ} (k : EndFits n t p a b) (K :
   -- w is the one on the way to b = u-z, and h the other
   module _ {w h r s u z : ℕ} (q : Fork n t p w a h r o s) (jb : Joins t b u z) where
     ps : p ≡ s → ⊥
-    ps = joins-differ n t h (k .valid) (q .f-lt) p s (q .f-row)
+    ps = joins-differ h (k .valid) (q .f-lt) p s (q .f-row)
 
     po : p ≡ o → ⊥
-    po = joins-differ n t a (k .valid) (k .a-lt) p o (q .x-row)
+    po = joins-differ a (k .valid) (k .a-lt) p o (q .x-row)
 
     w-p : touches t w p ≡ true
     w-p = joins-touch t w p r (q .e-row)
@@ -221,7 +221,7 @@ moved-by {n} {t} {p} {a} {b} k K {u} {z}
 module _ {n : ℕ} {t : List ℕ} {p a b : ℕ} (k : EndFits n t p a b) where
   pub start : Ahead n t b p a (part n t a (far t a p))
   start = record {
-    hang = hangs n t a p (far t a p) (k .valid) (k .a-lt) (touch-joins t a p (k .a-p));
+    hang = hangs a p (far t a p) (k .valid) (k .a-lt) (touch-joins t a p (k .a-p));
     e-lt = k .a-lt;
     e-v = k .a-p;
     inner = k .inner;
@@ -230,7 +230,7 @@ module _ {n : ℕ} {t : List ℕ} {p a b : ℕ} (k : EndFits n t p a b) where
   }
 
   pub found : Found n t b p a (walk n t b (nodes n) p a)
-  found = walk-from (k .valid) (k .b-lt) p a start
+  found = walk-from (k .valid) (k .b-lt) start
 
   moved-along : {u z : ℕ} {xs gs : List ℕ} → Joins t b u z → Walk n t b u z p a (far t a p) xs gs
       → MovedAlong n t (moveEnd n t p a b) p a b gs

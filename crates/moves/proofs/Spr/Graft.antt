@@ -84,10 +84,10 @@ module _ {n : ℕ} {t t′ : List ℕ} {p o a b : ℕ} {site : Site} (k : Graft 
   M = part n t a o
 
   pub pr : p ≡ r → ⊥
-  pr = joins-differ n t w (k .valid) (k .fork .f-lt) p r (k .fork .f-row)
+  pr = joins-differ w (k .valid) (k .fork .f-lt) p r (k .fork .f-row)
 
   pub ps : p ≡ s → ⊥
-  ps = joins-differ n t h (k .valid) (k .fork .x-lt) p s (k .fork .x-row)
+  ps = joins-differ h (k .valid) (k .fork .x-lt) p s (k .fork .x-row)
 
   -- ---- which colourings are flat after, row e left out
   flat-after : (e : ℕ) (c : ℕ → Bool)
@@ -127,12 +127,12 @@ module _ {n : ℕ} {t t′ : List ℕ} {p o a b : ℕ} {site : Site} (k : Graft 
   at-b c q = flat-join t b u z c (k .b-row) q
 
   -- a row that leaves p and b together keeps its set
-  pub keep-parts : (e S : ℕ)
+  pub keep-parts : {e S : ℕ}
       → Untouched site b e
       → Parts n t e S
       → has S p ≡ has S u
       → Parts n t′ e S
-  keep-parts e S un q pu =
+  keep-parts {e} {S} un q pu =
       let c = has S in
       let m = k .same e un in
       let p-r = at-w c (q .closed w (k .fork .f-lt) (λ i. un .not-w (sym i))) in
@@ -153,11 +153,11 @@ module _ {n : ℕ} {t t′ : List ℕ} {p o a b : ℕ} {site : Site} (k : Graft 
   a-same = k .same a a-untouched
 
   pub a-parts : Parts n t′ a M
-  a-parts = keep-parts a M a-untouched (k .hM .parts) (k .hM .out ∙ sym (k .M-u))
+  a-parts = keep-parts a-untouched (k .hM .parts) (k .hM .out ∙ sym (k .M-u))
 
   -- a set of h that leaves p and b together is what F parts
-  pub hang-parts : (S : ℕ) → Parts n t h S → has S p ≡ has S u → Parts n t′ F S
-  hang-parts S q pu =
+  pub hang-parts : {S : ℕ} → Parts n t h S → has S p ≡ has S u → Parts n t′ F S
+  hang-parts {S} q pu =
       let c = has S in
       let p-r = at-w c (q .closed w (k .fork .f-lt) (λ i. k .fork .xf (sym i))) in
       let u-z = at-b c (q .closed b (k .b-lt) (k .bh)) in
@@ -169,8 +169,8 @@ module _ {n : ℕ} {t t′ : List ℕ} {p o a b : ℕ} {site : Site} (k : Graft 
       }
 
   -- b's set, which parts p from z, is what X parts
-  pub far-parts : (S : ℕ) → Parts n t b S → has S p ≡ has S u → Parts n t′ X S
-  far-parts S q pu =
+  pub far-parts : {S : ℕ} → Parts n t b S → has S p ≡ has S u → Parts n t′ X S
+  far-parts {S} q pu =
       let c = has S in
       let p-r = at-w c (q .closed w (k .fork .f-lt) (λ i. k .bw (sym i))) in
       let p-s = at-h c (q .closed h (k .fork .x-lt) (λ i. k .bh (sym i))) in
@@ -236,10 +236,10 @@ module _ {n : ℕ} {t t′ : List ℕ} {p o a b : ℕ} {site : Site} (k : Graft 
     pub not-h : j ≡ h → ⊥
 
   -- its ends are both with M and p, or both not
-  aside-flat : (j : ℕ)
+  aside-flat : {j : ℕ}
       → Aside j
       → (has M (lo t j) || eqb p (lo t j)) ≡ (has M (hi t j) || eqb p (hi t j))
-  aside-flat j J =
+  aside-flat {j} J =
       let d = k .fork .only j (J .lt) (J .not-a) (J .not-h) (J .not-w) in
       ap₂ _||_ (k .hM .parts .closed j (J .lt) (J .not-a))
       (ne-eqb p (lo t j) (d .0) ∙ sym (ne-eqb p (hi t j) (d .1)))
@@ -249,13 +249,13 @@ module _ {n : ℕ} {t t′ : List ℕ} {p o a b : ℕ} {site : Site} (k : Graft 
   crossed-row : (S j : ℕ) → Aside j → has S (lo t j) ≡ has S (hi t j)
       → has (crossed M p S) (lo t j) ≡ has (crossed M p S) (hi t j)
   crossed-row S j J q =
-      has-crossed M p S (lo t j) ∙ ap₂ _⊕_ q (aside-flat j J) ∙ sym (has-crossed M p S (hi t j))
+      has-crossed M p S (lo t j) ∙ ap₂ _⊕_ q (aside-flat J) ∙ sym (has-crossed M p S (hi t j))
 
   crossed-apart : (S j : ℕ) → Aside j → has S (lo t j) ≡ not (has S (hi t j))
       → has (crossed M p S) (lo t j) ≡ not (has (crossed M p S) (hi t j))
   crossed-apart S j J q =
       has-crossed M p S (lo t j)
-      ∙ ap₂ _⊕_ q (aside-flat j J)
+      ∙ ap₂ _⊕_ q (aside-flat J)
       ∙ pull (has S (hi t j)) (has M (hi t j) || eqb p (hi t j))
       ∙ sym (ap not (has-crossed M p S (hi t j)))
     where
@@ -296,9 +296,9 @@ module _ {n : ℕ} {t t′ : List ℕ} {p o a b : ℕ} {site : Site} (k : Graft 
               (q .closed j l (ne j d (un .not-b)))
 
   -- a row that parts p from b exchanges M and p
-  pub cross-parts : (e S : ℕ) → Aside e → (e ≡ b → ⊥)
+  pub cross-parts : {e S : ℕ} → Aside e → (e ≡ b → ⊥)
       → Parts n t e S → has S z ≡ not (has S p) → Parts n t′ e (crossed M p S)
-  cross-parts e S E eb q zp =
+  cross-parts {e} {S} E eb q zp =
       let c = has (crossed M p S) in
       let m = k .same e (record { not-w = E .not-w; not-h = E .not-h; not-b = eb }) in
       let u-z = at-b (has S) (q .closed b (k .b-lt) (λ i. eb (sym i))) in
@@ -310,8 +310,8 @@ module _ {n : ℕ} {t t′ : List ℕ} {p o a b : ℕ} {site : Site} (k : Graft 
       }
 
   -- b's set with M and p exchanged is what N parts
-  pub near-parts : (S : ℕ) → Parts n t b S → has S p ≡ has S u → Parts n t′ N (crossed M p S)
-  near-parts S q pu =
+  pub near-parts : {S : ℕ} → Parts n t b S → has S p ≡ has S u → Parts n t′ N (crossed M p S)
+  near-parts {S} q pu =
       let u-z = apart-join t b u z (has S) (k .b-row) (q .apart) in
       let zp : has S z ≡ not (has S p) = not-swap (has S u) (has S z) u-z ∙ sym (ap not pu) in
       record {

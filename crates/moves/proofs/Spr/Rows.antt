@@ -36,8 +36,7 @@ pub record EndFits (n : ℕ) (t : List ℕ) (p a b : ℕ) : Type 0 where
 -- the two other rows at p
 pub end-rows : {n : ℕ} {t : List ℕ} {p a b : ℕ} → EndFits n t p a b → (f g : ℕ) × Pair n t a p f g
 end-rows {n} {t} {p} {a} k =
-    pair n t a p (k .valid) (k .a-lt) (k .a-p) (k .inner)
-    (touch-node n t a (k .valid) (k .a-lt) p (k .a-p))
+    pair a p (k .valid) (k .a-lt) (k .a-p) (k .inner) (touch-node a (k .valid) (k .a-lt) p (k .a-p))
 
 -- f and g are the two other rows at p
 pub moveEnd-eq : (n : ℕ) (t : List ℕ) (p a b f g : ℕ) → others t a p (rows n) ≡ f ∷ g ∷ []
@@ -58,7 +57,7 @@ module _ {n : ℕ} {t : List ℕ} {p a b f g : ℕ} (k : EndFits n t p a b) (q :
   s = far t g p
 
   pub fork : Fork n t p a f g (far t a p) r s
-  fork = fork-of n t a p f g (k .valid) (k .a-lt) (k .a-p) (k .inner) q
+  fork = fork-of (k .valid) (k .a-lt) (k .a-p) (k .inner) q
 
   pub bf : b ≡ f → ⊥
   bf w = k .b-p (ap (λ (x : ℕ). touches t x p) w ∙ q .f-p)
@@ -131,17 +130,17 @@ module _ {n : ℕ} {t : List ℕ} {p a b f g : ℕ} (k : EndFits n t p a b) (q :
   -- the ends that f gets differ
   pub rs : r ≡ s → ⊥
   rs w =
-      parallel n t f g p r (k .valid) (q .f-lt) (q .g-lt) (λ e. fg (sym e)) (fork .x-row)
+      parallel f g p r (k .valid) (q .f-lt) (q .g-lt) (λ e. fg (sym e)) (fork .x-row)
       (subst (λ (x : ℕ). Joins t g p x) (sym w) (fork .f-row))
 
   not-p : (p ≡ lo t b → ⊥) × (p ≡ hi t b → ⊥)
   not-p = not-touch t b p (k .b-p)
 
   r-lt : r < nodes n
-  r-lt = joins-nodes n t f (k .valid) (q .f-lt) p r (fork .x-row) .1
+  r-lt = joins-nodes f (k .valid) (q .f-lt) p r (fork .x-row) .1
 
   s-lt : s < nodes n
-  s-lt = joins-nodes n t g (k .valid) (q .g-lt) p s (fork .f-row) .1
+  s-lt = joins-nodes g (k .valid) (q .g-lt) p s (fork .f-row) .1
 
   -- every row has the smaller end first
   pub after-order : (j : ℕ) → j < rows n → (lo after j < hi after j) × (hi after j < nodes n)
@@ -159,7 +158,7 @@ module _ {n : ℕ} {t : List ℕ} {p a b f g : ℕ} (k : EndFits n t p a b) (q :
           (put-ordered t₂ g p (hi t b) (nodes n) (omega (arith, len₂, q .g-lt)) (not-p .1)
           (fork .p-lt) hi-lt)
       go (inr x) (inr y) (inl z) =
-          let lo-lt = valid-table n t (k .valid) .ends b (k .b-lt) .0 in
+          let lo-lt = valid-table (k .valid) .ends b (k .b-lt) .0 in
           rw (eqb-true j b z) (order-same t₂ after b (nodes n) b-same
           (put-ordered t₁ b (lo t b) p (nodes n) (omega (arith, len₁, k .b-lt))
           (λ w. not-p .0 (sym w)) lo-lt (fork .p-lt)))
@@ -169,4 +168,4 @@ module _ {n : ℕ} {t : List ℕ} {p a b f g : ℕ} (k : EndFits n t p a b) (q :
 
   -- the part that is moved
   pub hM : Hangs n t a p (part n t a (far t a p))
-  hM = hangs n t a p (far t a p) (k .valid) (k .a-lt) (fork .e-row)
+  hM = hangs a p (far t a p) (k .valid) (k .a-lt) (fork .e-row)

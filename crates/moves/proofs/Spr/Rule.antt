@@ -50,8 +50,8 @@ end-fits {n} {t} {p} {a} {b} vt la lb ba ta tb out = record {
     -- all but a taxon lies beyond its row
     beyond : p < n → (p ≡ lo t b → ⊥) → has M (lo t b) ≡ true
     beyond l d =
-        leaf-behind n t p a M vt l la ta (hangs n t a p (far t a p) vt la (touch-joins t a p ta))
-        (lo t b) (valid-table n t vt .ends b lb .0) d
+        leaf-behind vt l la ta (hangs a p (far t a p) vt la (touch-joins t a p ta))
+        (lo t b) (valid-table vt .ends b lb .0) d
 
     go : Either (ltb p n) → n ≤ p
     go (inr q) = ltb-false p n q
@@ -83,7 +83,7 @@ one-rule {n} {t} {p} {a} {b} k y hs bound cov few =
 
 -- ---- the move of kind 2: two different rows, and the second does not touch
 -- the end that moves
-module _ (n : ℕ) (t : List ℕ) (a b : ℕ) (vt : Valid n t) (la : a < rows n) (lb : b < rows n)
+module _ {n : ℕ} {t : List ℕ} (a b : ℕ) (vt : Valid n t) (la : a < rows n) (lb : b < rows n)
     (ab : a ≡ b → ⊥) (tb : touches t b (endWith n t a b) ≡ false) where
   pub spr-fits : EndFits n t (endWith n t a b) a b
   unfolding endWith
@@ -101,16 +101,16 @@ module _ (n : ℕ) (t : List ℕ) (a b : ℕ) (vt : Valid n t) (la : a < rows n)
       -- the two parts of a hold different nodes
       parted : has (part n t a v) (lo t b) ≡ not (has (part n t a u) (lo t b))
       parted =
-          two-sides n t a u v vt la (inl (refl, refl)) (lo t b) (valid-table n t vt .ends b lb .0)
+          two-sides a u v vt la (inl (refl, refl)) (lo t b) (valid-table vt .ends b lb .0)
 
       go : (q : Bool) → has (part n t a u) (lo t b) ≡ q → touches t b (pick q u v) ≡ false
           → EndFits n t (pick q u v) a b
       go true e tb =
-          let far-is = ap (λ (x : ℕ). has (part n t a x) (lo t b)) (far-lo n t a vt la) in
+          let far-is = ap (λ (x : ℕ). has (part n t a x) (lo t b)) (far-lo a vt la) in
           end-fits vt la lb ba (lo-touch t a) (λ w. not-both (touches t b u) w tb)
           (far-is ∙ parted ∙ ap not e)
       go false e tb =
-          let far-is = ap (λ (x : ℕ). has (part n t a x) (lo t b)) (far-hi n t a vt la) in
+          let far-is = ap (λ (x : ℕ). has (part n t a x) (lo t b)) (far-hi a vt la) in
           end-fits vt la lb ba (hi-touch t a) (λ w. not-both (touches t b v) w tb) (far-is ∙ e)
 
   pub spr-valid : Valid n (spr n t a b)

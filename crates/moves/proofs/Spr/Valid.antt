@@ -46,7 +46,7 @@ module _ {n : ℕ} {t : List ℕ} {p a b f g : ℕ} (k : EndFits n t p a b) (q :
   M = part n t a o
 
   tab : Table n t
-  tab = valid-table n t (k .valid)
+  tab = valid-table (k .valid)
 
   abbrev F : Fork n t p a f g o r s
   F = fork k q
@@ -143,7 +143,7 @@ module _ {n : ℕ} {t : List ℕ} {p a b f g : ℕ} (k : EndFits n t p a b) (q :
         let lo-lt = tab .ends b (k .b-lt) .0 in
         sym c-lo
         ∙ sym (d-out (lo t b) (k .b-out) (not-b .0))
-        ∙ one-colour n t d (tab .connected) d-flat (lo t b) p lo-lt (F .p-lt)
+        ∙ one-colour d (tab .connected) d-flat (lo t b) p lo-lt (F .p-lt)
         ∙ d-p
 
     flat-back : FlatAll n t c
@@ -160,7 +160,7 @@ module _ {n : ℕ} {t : List ℕ} {p a b f g : ℕ} (k : EndFits n t p a b) (q :
 
   after-connected : Connected n t′
   after-connected =
-      connected-by n t t′ (k .valid .big) (k .valid .connected)
+      connected-by t t′ (k .valid .big) (k .valid .connected)
       (λ j h. let w = after-order k q j h in (omega arith, w .1)) flat-back
 
   -- ---- every node keeps its number of rows

@@ -89,11 +89,11 @@ module _ {n : ℕ} {t t′ : List ℕ} {p o a b : ℕ} {site : Site} (k : Graft 
           let un = k .keep j (eqb-false j F y) (eqb-false j N y₁) (eqb-false j X y₂) in
           sym (touch-same t t′ j v (k .same j un)) ∙ e
 
-  fork-keep : (v x e f v′ q i : ℕ)
+  fork-keep : {v x e f v′ q i : ℕ}
       → Fork n t v x e f v′ q i
       → has M v ≡ true
       → Fork n t′ v x e f v′ q i
-  fork-keep v x e f v′ q i K mv = record {
+  fork-keep {v} {x} {e} {f} {v′} {q} {i} K mv = record {
     e-row = joins-keep x v v′ (K .e-row) mv;
     x-row = joins-keep e v q (K .x-row) mv;
     f-row = joins-keep f v i (K .f-row) mv;
@@ -110,10 +110,10 @@ module _ {n : ℕ} {t t′ : List ℕ} {p o a b : ℕ} {site : Site} (k : Graft 
         not-touch t′ j v (λ d. no-touch t j v (K .only j l jx je jf) (sym (touch-keep j v mv) ∙ d));
   }
 
-  hangs-keep : (j v H : ℕ) → Untouched site b j → Hangs n t j v H
+  hangs-keep : {j v H : ℕ} → Untouched site b j → Hangs n t j v H
       → has H p ≡ false → has H u ≡ false → Hangs n t′ j v H
-  hangs-keep j v H un hH hp hu =
-      record { parts = keep-parts k j H un (hH .parts) (hp ∙ sym hu); out = hH .out }
+  hangs-keep un hH hp hu =
+      record { parts = keep-parts k un (hH .parts) (hp ∙ sym hu); out = hH .out }
 
   -- come to the node v of M by row e: p, u and row a lie behind
   pub record Safe (v e P : ℕ) : Type 0 where
@@ -124,16 +124,15 @@ module _ {n : ℕ} {t t′ : List ℕ} {p o a b : ℕ} {site : Site} (k : Graft 
     pub in-a : Inside t P e a
 
   u-lt : u < nodes n
-  u-lt = joins-nodes n t b (k .valid) (k .b-lt) u z (k .b-row) .0
+  u-lt = joins-nodes b (k .valid) (k .b-lt) u z (k .b-row) .0
 
   pub walk-keep : {c u₂ z₂ : ℕ} → Joins t c u₂ z₂ → c < rows n
       → {v e q : ℕ} {xs gs : List ℕ} → Walk n t c u₂ z₂ v e q xs gs
       → (P : ℕ) → Safe v e P → Walk n t′ c u₂ z₂ v e q xs gs
   walk-keep {c} {u₂} {z₂} jc lc (done {D = D} vz ec qu hD tx) P S =
-      let D-is = beyond-is (k .valid) jc lc P D (at-b vz ec (S .hang)) hD in
+      let D-is = beyond-is (k .valid) jc lc (at-b vz ec (S .hang)) hD in
       let un = untouched c z₂ u₂ (joins-flip t c u₂ z₂ jc) (ap (has M) (sym vz) ∙ S .v-in) in
-      done vz ec qu
-      (hangs-keep c u₂ D un hD (D-is p (k .fork .p-lt) ∙ ap not (S .p-in))
+      done vz ec qu (hangs-keep un hD (D-is p (k .fork .p-lt) ∙ ap not (S .p-in))
       (D-is u u-lt ∙ ap not (S .u-in)))
       tx
   walk-keep jc lc (next {v} {e} {q} {h = f} {i} {x} {v′} {H = H} ec fc K hH tx rest) P S =
@@ -141,9 +140,8 @@ module _ {n : ℕ} {t t′ : List ℕ} {p o a b : ℕ} {site : Site} (k : Graft 
       let un = untouched f v i (K .f-row) (S .v-in) in
       let xa = inside-x K (S .hang) hH a (S .in-a) in
       let v-v′ = flat-join t x v v′ (has M) (K .e-row) (k .hM .parts .closed x (K .e-lt) xa) in
-      next ec fc (fork-keep v x e f v′ q i K (S .v-in))
-      (hangs-keep f v H un hH (none p (k .fork .p-lt) (S .p-in)) (none u u-lt (S .u-in)))
-      tx
+      next ec fc (fork-keep K (S .v-in))
+      (hangs-keep un hH (none p (k .fork .p-lt) (S .p-in)) (none u u-lt (S .u-in))) tx
       (walk-keep jc lc rest (joined P H v) (record {
         hang = behind K (S .hang) hH;
         p-in = behind-sub K (S .hang) hH p (S .p-in);

@@ -76,16 +76,16 @@ module _ {n : ℕ} {t t′ : List ℕ} {p o a b : ℕ} {site : Site} (k : Graft 
       ∙ ap (λ (y : Bool). has S i ⊕ y) (or-false (has M i))
 
   -- the row x on the way, after
-  moved-row : (x v′ P : ℕ) → Aside k x → Hangs n t x v′ P → has P p ≡ true → has P z ≡ false
+  moved-row : {x v′ P : ℕ} → Aside k x → Hangs n t x v′ P → has P p ≡ true → has P z ≡ false
       → Row n t′ (λ i. has P i ⊕ has M i)
-  moved-row x v′ P A hP pp pz = go (either (eqb x b))
+  moved-row {x} {v′} {P} A hP pp pz = go (either (eqb x b))
     where
       go : Either (eqb x b) → Row n t′ (λ i. has P i ⊕ has M i)
       go (inr d) = record {
         row = x;
         set = crossed M p P;
         lt = A .lt;
-        parts = cross-parts k x P A (eqb-false x b d) (hP .parts) (pz ∙ sym (ap not pp));
+        parts = cross-parts k A (eqb-false x b d) (hP .parts) (pz ∙ sym (ap not pp));
         is = taxon-crossed P;
       }
       go (inl d) =
@@ -95,7 +95,7 @@ module _ {n : ℕ} {t t′ : List ℕ} {p o a b : ℕ} {site : Site} (k : Graft 
             row = N;
             set = crossed M p P;
             lt = k .N-lt;
-            parts = near-parts k P q (pp ∙ sym pu);
+            parts = near-parts k q (pp ∙ sym pu);
             is = taxon-crossed P;
           }
 
@@ -107,7 +107,7 @@ module _ {n : ℕ} {t t′ : List ℕ} {p o a b : ℕ} {site : Site} (k : Graft 
       → Row n t′ (λ i. (has P i || inSome ls i) ⊕ has M i)
   unfolding inSome
   cut-rows′ [] W bs g eq P I R =
-      row-eq n t′ (λ i. has P i ⊕ has M i) (λ i. (has P i || false) ⊕ has M i)
+      row-eq (λ i. has P i ⊕ has M i) (λ i. (has P i || false) ⊕ has M i)
       (λ i l. ap (λ (y : Bool). y ⊕ has M i) (sym (or-false (has P i)))) R
   cut-rows′ (c ∷ ls) (done vz eb qu hD tx) bs g eq P I R =
       absurd (nil-snoc ls bs g (tail-eq-of-cons-eq eq))
@@ -116,13 +116,13 @@ module _ {n : ℕ} {t t′ : List ℕ} {p o a b : ℕ} {site : Site} (k : Graft 
       let J = step f hH I in
       let c-is : (i : ℕ) → has g′ i ≡ has c i
       = λ i. ap (λ (y : ℕ). has y i) (head-eq-of-cons-eq eq) in
-      row-eq n t′ (λ i. (has P′ i || inSome ls i) ⊕ has M i)
+      row-eq (λ i. (has P′ i || inSome ls i) ⊕ has M i)
       (λ i. (has P i || (has c i || inSome ls i)) ⊕ has M i)
       (λ i l. ap (λ (y : Bool). (y || inSome ls i) ⊕ has M i)
       (both f hH I g′ tx i l ∙ ap (λ (y : Bool). has P i || y) (c-is i))
       ∙ ap (λ (y : Bool). y ⊕ has M i) (or-assoc (has P i) (has c i) (inSome ls i)))
       (cut-rows′ ls rest bs g (tail-eq-of-cons-eq eq) P′ J
-      (moved-row x v′ P′ (x-aside f hH I) (J .hang) (J .p-in) (out-z rest P′ (base J))))
+      (moved-row (x-aside f hH I) (J .hang) (J .p-in) (out-z rest P′ (base J))))
 
   -- ---- each group has its row, before and after
   pub record GroupRows (g : ℕ) : Type 0 where
@@ -134,10 +134,10 @@ module _ {n : ℕ} {t t′ : List ℕ} {p o a b : ℕ} {site : Site} (k : Graft 
   group-rows [] (done {D = D} vz eb qu hD tx) bs g eq P I =
       let hP = at-b vz eb (I .hang) in
       let Dp : has D p ≡ false
-      = beyond-is (k .valid) (k .b-row) (k .b-lt) P D hP hD p (k .fork .p-lt) ∙ ap not (I .p-in) in
+      = beyond-is (k .valid) (k .b-row) (k .b-lt) hP hD p (k .fork .p-lt) ∙ ap not (I .p-in) in
       let is : (i : ℕ) → i < n → has D i ≡ has g i
       = λ i l. sym (tx i l) ∙ ap (λ (y : ℕ). has y i) (head-eq-of-cons-eq eq) in
-      let after-parts = far-parts k D (hD .parts) (Dp ∙ sym (hD .out)) in
+      let after-parts = far-parts k (hD .parts) (Dp ∙ sym (hD .out)) in
       record {
         before = record { row = b; set = D; lt = k .b-lt; parts = hD .parts; is = is };
         after = record { row = X; set = D; lt = k .X-lt; parts = after-parts; is = is };
@@ -159,7 +159,7 @@ module _ {n : ℕ} {t t′ : List ℕ} {p o a b : ℕ} {site : Site} (k : Graft 
         not-h = inside-h K (I .hang) hH h (I .in-h);
         not-b = fb;
       } in
-      let after-parts = keep-parts k f H un (hH .parts) (Hp ∙ sym Hz ∙ sym Hu) in
+      let after-parts = keep-parts k un (hH .parts) (Hp ∙ sym Hz ∙ sym Hu) in
       record {
         before = record { row = f; set = H; lt = K .f-lt; parts = hH .parts; is = is };
         after = record { row = f; set = H; lt = K .f-lt; parts = after-parts; is = is };
@@ -246,6 +246,6 @@ module _ {n : ℕ} {t t′ : List ℕ} {p o a b : ℕ} {site : Site} (k : Graft 
       → (P : ℕ) → Inv v e P
       → FarSet
   far-set (done {D = D} vz eb qu hD tx) P I =
-      let D-is = beyond-is (k .valid) (k .b-row) (k .b-lt) P D (at-b vz eb (I .hang)) hD in
+      let D-is = beyond-is (k .valid) (k .b-row) (k .b-lt) (at-b vz eb (I .hang)) hD in
       record { set = D; hang = hD; p-out = D-is p (k .fork .p-lt) ∙ ap not (I .p-in) }
   far-set (next {v} {H = H} eb hb f hH tx rest) P I = far-set rest (joined P H v) (step f hH I)

@@ -34,11 +34,11 @@ pub way-covers : {n : ℕ} {t : List ℕ} {a v b : ℕ} {gs : List ℕ}
     → touches t a v ≡ true
     → Found n t b v a gs
     → Covers n gs (part n t a v)
-way-covers {n} {t} {a} {v} {b} {gs} vt la lb ta w i l =
+way-covers {n} {t} {a} {v} vt la lb ta w i l =
     let o = far t a v in
     let j = touch-joins t a v ta in
-    exact vt (w .b-row) lb (w .way) (part n t a o) (hangs n t a v o vt la j) i l
-    ∙ sym (two-sides n t a o v vt la (joins-flip t a v o j) i (omega (arith, vt .big)))
+    exact vt (w .b-row) lb (w .way) (part n t a o) (hangs a v o vt la j) i l
+    ∙ sym (two-sides a o v vt la (joins-flip t a v o j) i (omega (arith, vt .big)))
 
 -- a way to a row that touches its first node has two groups
 at-end : {n : ℕ} {t : List ℕ} {b u z v e q : ℕ} {xs gs : List ℕ}
@@ -104,12 +104,12 @@ module _ {n : ℕ} {t : List ℕ} {a v b : ℕ} (A : Aim n t a v b) where
 
   out-of : has (part n t a v) (lo t b) ≡ true → has (part n t a (far t a v)) (lo t b) ≡ false
   out-of h =
-      let lo-lt = valid-table n t (A .valid) .ends b (A .b-lt) .0 in
-      two-sides n t a v (far t a v) (A .valid) (A .a-lt) j (lo t b) lo-lt ∙ ap not h
+      let lo-lt = valid-table (A .valid) .ends b (A .b-lt) .0 in
+      two-sides a v (far t a v) (A .valid) (A .a-lt) j (lo t b) lo-lt ∙ ap not h
 
   ahead : Inner n t a v b → Ahead n t b v a (part n t a (far t a v))
   ahead w = record {
-    hang = hangs n t a v (far t a v) (A .valid) (A .a-lt) j;
+    hang = hangs a v (far t a v) (A .valid) (A .a-lt) j;
     e-lt = A .a-lt;
     e-v = A .a-v;
     inner = w .inner;
@@ -122,7 +122,7 @@ module _ {n : ℕ} {t : List ℕ} {a v b : ℕ} (A : Aim n t a v b) where
   gs = walk n t b (nodes n) v a
 
   way : Inner n t a v b → Found n t b v a gs
-  way w = walk-from (A .valid) (A .b-lt) v a (ahead w)
+  way w = walk-from (A .valid) (A .b-lt) (ahead w)
 
   pub leaf-groups : v < n → groups n t a v b ≡ 2 ^ v ∷ []
   unfolding groups

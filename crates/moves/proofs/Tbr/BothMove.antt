@@ -41,17 +41,17 @@ module _ {n : ℕ} {t t′ : List ℕ} {p q a b : ℕ} {site : Site} (k : Graft 
   jq = joins-flip t a p q (k .fork .e-row)
 
   hp : far t a q ≡ p
-  hp = far-is t a q p jq (joins-differ n t a (k .valid) a-lt q p jq)
+  hp = far-is t a q p jq (joins-differ a (k .valid) a-lt q p jq)
 
   q-in : has (part n t a q) q ≡ true
   q-in = part-start n t a q
 
   lo-c : lo t c < nodes n
-  lo-c = valid-table n t (k .valid) .ends c (k₂ .b-lt) .0
+  lo-c = valid-table (k .valid) .ends c (k₂ .b-lt) .0
 
   c-in : has (part n t a q) (lo t c) ≡ true
   c-in =
-      two-sides n t a p q (k .valid) a-lt (k .fork .e-row) (lo t c) lo-c
+      two-sides a p q (k .valid) a-lt (k .fork .e-row) (lo t c) lo-c
       ∙ ap not (ap (λ (x : ℕ). has (part n t a x) (lo t c)) (sym hp) ∙ k₂ .b-out)
 
   c-same : SameRow t t′ c
@@ -61,14 +61,14 @@ module _ {n : ℕ} {t t′ : List ℕ} {p q a b : ℕ} {site : Site} (k : Graft 
   a-joins = joins-same t t′ a q p (a-same k .0) (a-same k .1) jq
 
   far′ : far t′ a q ≡ p
-  far′ = far-is t′ a q p a-joins (joins-differ n t′ a (k .valid′) a-lt q p a-joins)
+  far′ = far-is t′ a q p a-joins (joins-differ a (k .valid′) a-lt q p a-joins)
 
   -- the two sides of a are as before
   same-side : (i : ℕ) → i < nodes n → has (part n t′ a q) i ≡ has (part n t a q) i
-  same-side i l = part-is n t′ a q p (k .valid′) a-lt a-joins (part n t a q) (a-parts k) q-in i l
+  same-side i l = part-is a q p (k .valid′) a-lt a-joins (a-parts k) q-in i l
 
   other-side : (i : ℕ) → i < nodes n → has (part n t′ a p) i ≡ not (has (part n t a q) i)
-  other-side i l = two-sides n t′ a q p (k .valid′) a-lt a-joins i l ∙ ap not (same-side i l)
+  other-side i l = two-sides a q p (k .valid′) a-lt a-joins i l ∙ ap not (same-side i l)
 
   -- so q fits row c in t′
   pub fits₂ : EndFits n t′ q a c
@@ -88,11 +88,11 @@ module _ {n : ℕ} {t t′ : List ℕ} {p q a b : ℕ} {site : Site} (k : Graft 
 
   safe : Safe k q a (part n t a (far t a q))
   safe = record {
-    hang = hangs n t a q (far t a q) (k .valid) a-lt (touch-joins t a q (k₂ .a-p));
+    hang = hangs a q (far t a q) (k .valid) a-lt (touch-joins t a q (k₂ .a-p));
     p-in = ap (has (part n t a (far t a q))) (sym hp) ∙ part-start n t a (far t a q);
     u-in =
-        two-sides n t a q (far t a q) (k .valid) a-lt (touch-joins t a q (k₂ .a-p)) u
-        (joins-nodes n t b (k .valid) (k .b-lt) u z (k .b-row) .0)
+        two-sides a q (far t a q) (k .valid) a-lt (touch-joins t a q (k₂ .a-p)) u
+        (joins-nodes b (k .valid) (k .b-lt) u z (k .b-row) .0)
         ∙ ap not (k .M-u);
     v-in = q-in;
     in-a = inl refl;
@@ -110,19 +110,19 @@ module _ {n : ℕ} {t t′ : List ℕ} {p q a b : ℕ} {site : Site} (k : Graft 
       (walk-keep k (f .b-row) (k₂ .b-lt) (f .way) (part n t a (far t a q)) safe))
       (part n t′ a p) y (λ i l. ap (λ (x : ℕ). has (part n t′ a x) i) (sym far′)) bound
 
-  pub two-rule : (y : ℕ) (gs : List ℕ)
+  pub two-rule : {y : ℕ} {gs : List ℕ}
       → y < 2 ^ n
       → Chain n y (part n t a q) gs (splits n t y) (splits n t′ y)
       → Covers n gs (part n t a p)
       → dist n t (moveEnd n t′ q a c) y ≡ rule (met y gs) (met y (walk n t c (nodes n) q a))
   unfolding distBy
-  two-rule y gs bound C cov =
+  two-rule {y} {gs} bound C cov =
       two-dist C (second y bound) (λ i yi. other-side i (node i (has-below n y i bound yi)))
       ∙ ap₂ (λ (x x′ : Bool). pick x (2 * (met y gs - 2)) 0 + pick x′ (2 * (met y hs - 2)) 0)
       (side-met n y (part n t a q) hs bound
       (way-covers (k .valid) a-lt (k₂ .b-lt) (k₂ .a-p) (found k₂)))
       (side-met n y (part n t′ a p) gs bound
-      (λ i l. cov i l ∙ two-sides n t a q p (k .valid) a-lt jq i (node i l)
+      (λ i l. cov i l ∙ two-sides a q p (k .valid) a-lt jq i (node i l)
       ∙ sym (other-side i (node i l))))
       ∙ rule-two (met y gs) (met y hs)
     where

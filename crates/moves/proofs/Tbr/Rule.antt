@@ -51,10 +51,10 @@ module _ {n : ℕ} {t : List ℕ} {a b c : ℕ} (low : Aim n t a (lo t a) b)
   t₁ = moveEnd n t p a b
 
   fp : far t a p ≡ q
-  fp = far-lo n t a (low .valid) (low .a-lt)
+  fp = far-lo a (low .valid) (low .a-lt)
 
   fq : far t a q ≡ p
-  fq = far-hi n t a (low .valid) (low .a-lt)
+  fq = far-hi a (low .valid) (low .a-lt)
 
   -- the table t₂ is valid, and its distance is the papers' rule
   record Goal (t₂ : List ℕ) : Type 0 where
@@ -124,7 +124,7 @@ module _ {n : ℕ} {t : List ℕ} {a b c : ℕ} (low : Aim n t a (lo t a) b)
 
       distance : (y : ℕ) → y < 2 ^ n → dist n t (moveEnd n t₁ q a c) y ≡ rule (met y gs) (met y hs)
       distance y bound =
-          two-rule g k₂ y way bound (chain y bound) covers
+          two-rule g k₂ bound (chain y bound) covers
           ∙ ap₂ (λ (x x′ : List ℕ). rule (met y x) (met y x′))
           (sym (inner-groups low (k₁ .inner))) (sym (inner-groups high (k₂ .inner)))
 
@@ -172,7 +172,7 @@ module _ {n : ℕ} {t : List ℕ} {a b c : ℕ} (low : Aim n t a (lo t a) b)
       go false e d = fits₂ (first-graft (not-so (touches t b p) e) .graft) (side-fits high d)
 
 -- ---- the move of kind 3: each target fits its end
-module _ (n : ℕ) (t : List ℕ) (a b c : ℕ) (vt : Valid n t)
+module _ {n : ℕ} {t : List ℕ} (a b c : ℕ) (vt : Valid n t)
     (la : a < rows n) (lb : b < rows n) (lc : c < rows n)
     (low : target n t a (lo t a) b ≡ true) (high : target n t a (hi t a) c ≡ true) where
   pub aim-low : Aim n t a (lo t a) b

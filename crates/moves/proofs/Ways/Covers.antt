@@ -35,7 +35,7 @@ pub leaf-covers : {n : ℕ} {t : List ℕ} {e v : ℕ}
 leaf-covers {n} {t} {e} {v} vt le te lv i l =
     inSome-one i (2 ^ v)
     ∙ has-pow v i
-    ∙ sym (leaf-side n t e v vt lv le te i (omega (arith, vt .big)))
+    ∙ sym (leaf-side e v vt lv le te i (omega (arith, vt .big)))
 
 -- the groups of an inner end
 abbrev two-groups : ℕ → List ℕ → ℕ → ℕ → List ℕ
@@ -58,7 +58,7 @@ stayed-covers {n} {t} {e} v vt le te = go (ltb v n) refl
         let g-in = has (part n t g (far t g v)) i in
         let no-node = ne-eqb v i (λ d. omega arith) in
         let side : has (part n t e v) i ≡ (f-in || g-in)
-        = node-side n t e v f g vt le te iv K i (omega (arith, vt .big))
+        = node-side vt le te iv K i (omega (arith, vt .big))
         ∙ ap (λ (x : Bool). f-in || g-in || x) no-node
         ∙ or-false (f-in || g-in) in
         ap₂ _||_ (beyond-taxa n t v f i l)
@@ -71,7 +71,7 @@ stayed-covers {n} {t} {e} v vt le te = go (ltb v n) refl
     go true w i l = leaf-covers vt le te (ltb-true v n w) i l
     go false w i l =
         let iv = ltb-false v n w in
-        let K = pair n t e v vt le te iv (touch-node n t e vt le v te) in
+        let K = pair e v vt le te iv (touch-node e vt le v te) in
         rw (K .2 .list) (two (K .0) (K .1) i iv (K .2) l)
 
 pub stayed-two : (n : ℕ) (t : List ℕ) (e v y : ℕ) → met y (stayed n t e v) ≤ 2

@@ -3,7 +3,7 @@ use mathlib.Core.Path.{_≡_, refl, sym, ap, ap₂, _∙_, subst}
 use mathlib.Core.Logic.{inl, inr}
 use mathlib.Core.Bool.{Bool, true, false, _&&_, _||_, true≢false}
 use mathlib.Core.List.{List, [], _∷_}
-use Prim.Native.Nat.{ℕ, zero, suc, _+_, _^_, _≤_, _<_}
+use Prim.Native.Nat.{ℕ, zero, suc, _+_, _≤_, _<_}
 use native.Mathlib.Omega.{arith}
 use lib.Dec.{eqb, ltb}
 use borrow.Author.Tests.{eqb-true, eqb-false, eq-eqb, ne-eqb, lt-ltb, ltb-true, ltb-false}
@@ -24,18 +24,18 @@ use Rattle.moves.proofs.Ways.Walk.{Taxa, Walk, next, done, fork-turn, b
 use Rattle.moves.proofs.Ways.Walk.{behind-v, behind-sub, no-common}
 
 -- the set behind row e, seen from a taxon v, is all but v
-pub leaf-behind : (n : ℕ) (t : List ℕ) (v e P : ℕ)
+pub leaf-behind : {n : ℕ} {t : List ℕ} {v e P : ℕ}
     → Valid n t
     → v < n
     → e < rows n
     → touches t e v ≡ true
     → Hangs n t e v P
     → (i : ℕ) → i < nodes n → (v ≡ i → ⊥) → has P i ≡ true
-leaf-behind n t v e P vt lv le te hP i li d =
-    let alone = leaf-parts n t e v vt lv le te in
-    let w = parts-unique n t e P (2 ^ v) (vt .connected) (vt .big) (hP .parts) alone in
+leaf-behind {n} {t} {v} {e} vt lv le te hP i li d =
+    let alone = leaf-parts e v vt lv le te in
+    let w = parts-unique (vt .connected) (vt .big) (hP .parts) alone in
     let v-in = ap (λ (x : Bool). w .0 ⊕ x) (has-pow v v ∙ eq-eqb v v refl) in
-    let at-v = w .1 v (touch-node n t e vt le v te) ∙ v-in in
+    let at-v = w .1 v (touch-node e vt le v te) ∙ v-in in
     let all : w .0 ≡ true = xor-at-true (w .0) false (sym (sym (hP .out) ∙ at-v)) in
     w .1 i li ∙ ap₂ _⊕_ all (has-pow v i ∙ ne-eqb v i d)
 
@@ -112,7 +112,7 @@ module _ {n : ℕ} {t : List ℕ} {b : ℕ} (vt : Valid n t) (b-lt : b < rows n)
     H = part n t off (far t off v)
 
     hH : Hangs n t off v H
-    hH = hangs n t off v (far t off v) vt (q .f-lt) (q .f-row)
+    hH = hangs off v (far t off v) vt (q .f-lt) (q .f-row)
 
     -- on is b
     last-step : eqb on b ≡ true → Found n t b v e (beyond n t v off ∷ beyond n t v b ∷ [])
@@ -121,7 +121,7 @@ module _ {n : ℕ} {t : List ℕ} {b : ℕ} (vt : Valid n t) (b-lt : b < rows n)
         let j : Joins t b v v′ = subst (λ (x : ℕ). Joins t x v v′) ob (q .e-row) in
         let jb : Joins t b v (far t b v)
         = subst (λ (x : ℕ). Joins t x v (far t x v)) ob (q .e-row) in
-        let last = done refl ob refl (hangs n t b v (far t b v) vt b-lt jb) (beyond-taxa n t v b) in
+        let last = done refl ob refl (hangs b v (far t b v) vt b-lt jb) (beyond-taxa n t v b) in
         record {
           u = v;
           z = v′;
@@ -167,10 +167,10 @@ module _ {n : ℕ} {t : List ℕ} {b : ℕ} (vt : Valid n t) (b-lt : b < rows n)
               at (inl x) =
                   let b-v′ = joins-touch t b v′ (hi t b)
                   (inl (sym (eqb-true v′ (lo t b) x), refl)) in
-                  eqb-false on b on-b (sym (leaf-only n t v′ on vt l (q .e-lt) on-v′ b b-lt b-v′))
+                  eqb-false on b on-b (sym (leaf-only v′ on vt l (q .e-lt) on-v′ b b-lt b-v′))
               at (inr x) =
-                  let lo-lt = valid-table n t vt .ends b b-lt .0 in
-                  let all = leaf-behind n t v′ on P′ vt l (q .e-lt) on-v′ hP′ in
+                  let lo-lt = valid-table vt .ends b b-lt .0 in
+                  let all = leaf-behind vt l (q .e-lt) on-v′ hP′ in
                   true≢false (sym (all (lo t b) lo-lt (eqb-false v′ (lo t b) x)) ∙ P′-out)
 
       ahead : Ahead n t b v′ on P′
@@ -189,8 +189,8 @@ module _ {n : ℕ} {t : List ℕ} {b : ℕ} (vt : Valid n t) (b-lt : b < rows n)
           size-less (nodes n) P P′ v (λ j l. behind-sub q (A .hang) hH j) (q .p-lt) (A .hang .out)
           (behind-v q (A .hang) hH)
 
-      next-step : (gs : List ℕ) → Found n t b v′ on gs → Found n t b v e (beyond n t v off ∷ gs)
-      next-step gs w =
+      next-step : {gs : List ℕ} → Found n t b v′ on gs → Found n t b v e (beyond n t v off ∷ gs)
+      next-step {gs} w =
           let rest = subst (λ (x : ℕ). Walk n t b (w .u) (w .z) v′ on x (w .xs) gs) far-far
           (w .way) in
           record {
@@ -213,7 +213,7 @@ module _ {n : ℕ} {t : List ℕ} {b : ℕ} (vt : Valid n t) (b-lt : b < rows n)
       go (λ v′ e′ P′ A′ fuel′. walk-is k v′ e′ P′ A′ fuel′) (leads n t b v f) refl
     where
       pr : (f g : ℕ) × Pair n t e v f g
-      pr = pair n t e v vt (A .e-lt) (A .e-v) (A .inner) (touch-node n t e vt (A .e-lt) v (A .e-v))
+      pr = pair e v vt (A .e-lt) (A .e-v) (A .inner) (touch-node e vt (A .e-lt) v (A .e-v))
 
       f : ℕ
       f = pr .0
@@ -225,27 +225,26 @@ module _ {n : ℕ} {t : List ℕ} {b : ℕ} (vt : Valid n t) (b-lt : b < rows n)
       K = pr .2
 
       fk : Fork n t v e f g (far t e v) (far t f v) (far t g v)
-      fk = fork-of n t e v f g vt (A .e-lt) (A .e-v) (A .inner) K
+      fk = fork-of vt (A .e-lt) (A .e-v) (A .inner) K
 
       on-f : Fork n t v f e g (far t f v) (far t e v) (far t g v)
       on-f =
-          fork-turn (joins-differ n t f vt (K .f-lt) v (far t f v) (fk .x-row))
-          (fork-swap n t v e f g (far t e v) (far t f v) (far t g v) fk)
+          fork-turn (joins-differ f vt (K .f-lt) v (far t f v) (fk .x-row)) (fork-swap fk)
 
       on-g : Fork n t v g e f (far t g v) (far t e v) (far t f v)
-      on-g = fork-turn (joins-differ n t g vt (K .g-lt) v (far t g v) (fk .f-row)) fk
+      on-g = fork-turn (joins-differ g vt (K .g-lt) v (far t g v) (fk .f-row)) fk
 
       B : ℕ
       B = part n t f (far t f v)
 
       hB : Hangs n t f v B
-      hB = hangs n t f v (far t f v) vt (K .f-lt) (fk .x-row)
+      hB = hangs f v (far t f v) vt (K .f-lt) (fk .x-row)
 
       G : ℕ
       G = part n t g (far t g v)
 
       hG : Hangs n t g v G
-      hG = hangs n t g v (far t g v) vt (K .g-lt) (fk .f-row)
+      hG = hangs g v (far t g v) vt (K .g-lt) (fk .f-row)
 
       -- b's smaller end beyond f: b is not g, nor beyond g
       g-not-b : has B (lo t b) ≡ true → g ≡ b → ⊥
@@ -255,7 +254,7 @@ module _ {n : ℕ} {t : List ℕ} {b : ℕ} (vt : Valid n t) (b-lt : b < rows n)
           true≢false (sym w ∙ ap (λ (x : ℕ). has B (lo t x)) (sym d) ∙ out)
 
       b-not-g : has B (lo t b) ≡ true → has G (lo t b) ≡ false
-      b-not-g w = no-common fk hB hG vt (lo t b) (valid-table n t vt .ends b b-lt .0) w
+      b-not-g w = no-common fk hB hG vt (lo t b) (valid-table vt .ends b b-lt .0) w
 
       Deep : Type 0
       Deep =
@@ -277,8 +276,7 @@ module _ {n : ℕ} {t : List ℕ} {b : ℕ} (vt : Valid n t) (b-lt : b < rows n)
           let lead : has B (lo t b) ≡ true = sym (ap (λ (x : Bool). x || has B (lo t b)) w) ∙ hl in
           let gb = g-not-b lead in
           let out = b-not-g lead in
-          to _ (next-is n t b e v f g (K .list) k true hl w)
-          (next-step A on-f gb w out (walk n t b k (far t f v) f)
+          to _ (next-is n t b e v f g (K .list) k true hl w) (next-step A on-f gb w out
           (ih (far t f v) f (P′ A on-f gb w out) (ahead A on-f gb w out)
           (omega (arith, grows A on-f gb w out))))
 
@@ -292,8 +290,7 @@ module _ {n : ℕ} {t : List ℕ} {b : ℕ} (vt : Valid n t) (b-lt : b < rows n)
       by-g ih hl (inr w) =
           let no = or-neither (eqb f b) (has B (lo t b)) hl in
           let fb : f ≡ b → ⊥ = eqb-false f b (no .0) in
-          to _ (next-is n t b e v f g (K .list) k false hl w)
-          (next-step A on-g fb w (no .1) (walk n t b k (far t g v) g)
+          to _ (next-is n t b e v f g (K .list) k false hl w) (next-step A on-g fb w (no .1)
           (ih (far t g v) g (P′ A on-g fb w (no .1)) (ahead A on-g fb w (no .1))
           (omega (arith, grows A on-g fb w (no .1)))))
 
@@ -302,11 +299,11 @@ module _ {n : ℕ} {t : List ℕ} {b : ℕ} (vt : Valid n t) (b-lt : b < rows n)
       go ih false hl = by-g ih hl (either (eqb g b))
 
   -- from the whole of one end's part: as many nodes as there are suffice
-  pub walk-from : (v e : ℕ)
+  pub walk-from : {v e : ℕ}
       → Ahead n t b v e (part n t e (far t e v))
       → Found n t b v e (walk n t b (nodes n) v e)
-  walk-from v e A =
+  walk-from {v} {e} A =
       let o = far t e v in
       let P = part n t e o in
-      let o-lt = joins-nodes n t e vt (A .e-lt) v o (touch-joins t e v (A .e-v)) .1 in
+      let o-lt = joins-nodes e vt (A .e-lt) v o (touch-joins t e v (A .e-v)) .1 in
       walk-is (nodes n) v e P A (omega (arith, size-pos (nodes n) P o o-lt (part-start n t e o)))

@@ -41,20 +41,20 @@ module _ {n : ℕ} {t : List ℕ} {e v f g : ℕ} (a : EndOf n t e v) (inner : n
   G = part n t g (far t g v)
 
   k : Fork n t v e f g (far t e v) (far t f v) (far t g v)
-  k = fork n t e v f g (a .valid) (a .row) (a .touch) inner K
+  k = fork (a .valid) (a .row) (a .touch) inner K
 
   low : lo t b < nodes n
-  low = valid-table n t (a .valid) .ends b lb .0
+  low = valid-table (a .valid) .ends b lb .0
 
   not-both-lead : leads n t b v f ≡ true → leads n t b v g ≡ false
   unfolding leads
   not-both-lead h = go (or-cases (eqb f b) (has F (lo t b)) h)
     where
       hF : Hangs n t f v F
-      hF = hang-f n t e v f g (a .valid) (a .row) (a .touch) inner K
+      hF = hang-f (a .valid) (a .row) (a .touch) inner K
 
       hG : Hangs n t g v G
-      hG = hang-g n t e v f g (a .valid) (a .row) (a .touch) inner K
+      hG = hang-g (a .valid) (a .row) (a .touch) inner K
 
       f-out : has G (lo t f) ≡ false
       f-out =
@@ -87,7 +87,7 @@ module _ {n : ℕ} {t : List ℕ} {e v f g : ℕ} (a : EndOf n t e v) (inner : n
       no = or-neither (eqb f b) (has F (lo t b)) h
 
       ahead : (has F (lo t b) || has G (lo t b) || eqb v (lo t b)) ≡ true
-      ahead = sym (node-side n t e v f g (a .valid) (a .row) (a .touch) inner K (lo t b) low) ∙ p
+      ahead = sym (node-side (a .valid) (a .row) (a .touch) inner K (lo t b) low) ∙ p
 
       go : Either (eqb g b) → ((has F (lo t b) || has G (lo t b)) ≡ true) ⊎ (eqb v (lo t b) ≡ true)
           → (eqb g b || has G (lo t b)) ≡ true
@@ -185,8 +185,7 @@ module _ {n : ℕ} {t : List ℕ} {e v : ℕ} (a : EndOf n t e v) {b : ℕ} (lb 
   -- row e does not leave b's side
   flat : B (lo t e) ≡ B (hi t e)
   flat =
-      row-parts n t (a .valid .big) (valid-table n t (a .valid)) b lb .closed e (a .row)
-      (λ d. be (sym d))
+      row-parts (a .valid .big) (valid-table (a .valid)) b lb .closed e (a .row) (λ d. be (sym d))
 
   ends-same : B v ≡ B (far t e v)
   ends-same = flat-join t e v (far t e v) B (end-joins a) flat
@@ -204,9 +203,9 @@ module _ {n : ℕ} {t : List ℕ} {e v : ℕ} (a : EndOf n t e v) {b : ℕ} (lb 
       → has (part n t e v) i ≡ not (has (part n t e v) (lo t b))
       → B i ≡ B v
   one-side i l p =
-      let T = valid-table n t (a .valid) in
-      let P = part-parts n t e v (far t e v) (a .valid) (a .row) (end-joins a) in
-      let Q = row-parts n t (a .valid .big) T b lb in
+      let T = valid-table (a .valid) in
+      let P = part-parts e v (far t e v) (a .valid) (a .row) (end-joins a) in
+      let Q = row-parts (a .valid .big) T b lb in
       let eb : e ≡ b → ⊥ = λ d. be (sym d) in
       let none = empty-corner n t e b (part n t e v) (part n t b (lo t b)) T (a .row) lb eb P Q in
       same (B i) (B (lo t e)) (none i l p) ∙ end-lo
@@ -267,7 +266,7 @@ module _ {n : ℕ} {t : List ℕ} {e v : ℕ} (a : EndOf n t e v) {b : ℕ} (lb 
       go : (c : Bool) → has (part n t b (lo t b)) v ≡ c → On n t b e v (not c)
       go true h =
           let x = some-taxon (record { valid = a .valid; row = lb; touch = hi-touch t b }) in
-          let sides = two-sides n t b (hi t b) (lo t b) (a .valid) lb (inr (refl, refl)) in
+          let sides = two-sides b (hi t b) (lo t b) (a .valid) lb (inr (refl, refl)) in
           let q : has (part n t b (lo t b)) (x .i) ≡ false
           = sides (x .i) (node (x .lt)) ∙ ap not (x .within) in
           record { i = x .i; lt = x .lt; with-v = lies true (x .i) h (x .lt) q; side = q }

@@ -56,19 +56,19 @@ pub third-row : {n : ℕ} {t : List ℕ} {e p q x : ℕ} → Valid n t
     → touches t x p ≡ true
     → Third n t e p q x
 third-row {n} {t} {e} {p} {q} {x} vt le lx xe inner j tx =
-    let w = pair n t e p vt le te inner (touch-node n t e vt le p te) in
+    let w = pair e p vt le te inner (touch-node e vt le p te) in
     go (w .0) (w .1) (w .2) (either (eqb x (w .0))) (either (eqb x (w .1)))
   where
     te : touches t e p ≡ true
     te = joins-touch t e p q j
 
     q-is : far t e p ≡ q
-    q-is = far-is t e p q j (joins-differ n t e vt le p q j)
+    q-is = far-is t e p q j (joins-differ e vt le p q j)
 
     fork : (f g : ℕ) → Pair n t e p f g → Fork n t p e f g q (far t f p) (far t g p)
     fork f g K =
         subst (λ (v : ℕ). Fork n t p e f g v (far t f p) (far t g p)) q-is
-        (fork-of n t e p f g vt le te inner K)
+        (fork-of vt le te inner K)
 
     go : (f g : ℕ) → Pair n t e p f g → Either (eqb x f) → Either (eqb x g) → Third n t e p q x
     go f g K (inl u) v =
@@ -80,7 +80,7 @@ third-row {n} {t} {e} {p} {q} {x} vt le lx xe inner j tx =
     go f g K (inr u) (inl v) =
         subst (λ (x : ℕ). Third n t e p q x) (sym (eqb-true x g v)) (record {
           row = f;
-          fork = fork-swap n t p e f g q (far t f p) (far t g p) (fork f g K);
+          fork = fork-swap (fork f g K);
           stays = λ Y b. met-stayed n t Y e p f g b inner (K .list)
               ∙ add-comm (meetsBy n t Y p f) (meetsBy n t Y p g);
         })

@@ -71,13 +71,10 @@ module _ {n : ℕ} {t : List ℕ} {v x e h v′ q i P H : ℕ} (k : Fork n t v x
     (hP : Hangs n t e v P) (hH : Hangs n t h v H) where
   -- what lies behind x: P, H and v, and no taxon besides
   pub behind : Hangs n t x v′ (joined P H v)
-  behind = record {
-    parts = joined-parts n t v x e h v′ q i k P H hP hH;
-    out = joined-out n t v x e h v′ q i k P H hP hH;
-  }
+  behind = record { parts = joined-parts k hP hH; out = joined-out k hP hH }
 
   pub behind-v : has (joined P H v) v ≡ true
-  behind-v = joined-in n t v x e h v′ q i k P H hP hH
+  behind-v = joined-in k hP hH
 
   pub behind-sub : (j : ℕ) → has P j ≡ true → has (joined P H v) j ≡ true
   behind-sub j w = has-joined P H v j ∙ ap (λ (b : Bool). b || has H j || eqb v j) w
@@ -89,12 +86,12 @@ module _ {n : ℕ} {t : List ℕ} {v x e h v′ q i P H : ℕ} (k : Fork n t v x
       ∙ ap (λ (b : Bool). b || eqb v j) (or-true (has P j))
 
   pub behind-taxa : (j : ℕ) → j < n → has (joined P H v) j ≡ (has P j || has H j)
-  behind-taxa j l = joined-at n t v x e h v′ q i k P H hP hH j l
+  behind-taxa j l = joined-at k hP hH j l
 
   -- no node lies both behind e and beyond h
   pub no-common : Valid n t → Apart n P H
   no-common vt =
-      hang-apart (valid-table n t vt) (k .xf)
+      hang-apart (valid-table vt) (k .xf)
       (record { lt = k .x-lt; row = k .x-row; parts = hP .parts })
       (record { lt = k .f-lt; row = k .f-row; parts = hH .parts })
       (hH .out) (hP .out)
@@ -104,7 +101,7 @@ module _ {n : ℕ} {t : List ℕ} {v x e h v′ q i P H : ℕ} (k : Fork n t v x
   inside-step j (inr w) = inr (behind-sub (lo t j) (w .0), behind-sub (hi t j) (w .1))
   inside-step j (inl w) =
       let S = joined P H v in
-      let q-in = behind-sub q (at-a n t v x e h v′ q i k P H hP hH) in
+      let q-in = behind-sub q (at-a k hP hH) in
       let e-in = both-in t e v q S (k .x-row) behind-v q-in in
       inr (subst (λ (r : ℕ). (has S (lo t r) ≡ true) × (has S (hi t r) ≡ true)) (sym w) e-in)
 
@@ -190,19 +187,19 @@ at-b {n} {t} {b} {z} {v} {e} {P} vz eb hP =
 module _ {n : ℕ} {t : List ℕ} {b u z : ℕ} (vt : Valid n t) (jb : Joins t b u z)
     (lb : b < rows n) where
   -- come to z, the set behind holds u
-  pub u-behind : (P : ℕ) → Hangs n t b z P → has P u ≡ true
-  u-behind P hP = apart-join t b u z (has P) jb (hP .parts .apart) ∙ ap not (hP .out)
+  pub u-behind : {P : ℕ} → Hangs n t b z P → has P u ≡ true
+  u-behind {P} hP = apart-join t b u z (has P) jb (hP .parts .apart) ∙ ap not (hP .out)
 
   -- what lies beyond b is what is not behind
-  pub beyond-is : (P D : ℕ)
+  pub beyond-is : {P D : ℕ}
       → Hangs n t b z P
       → Hangs n t b u D
       → (i : ℕ) → i < nodes n
       → has D i ≡ not (has P i)
-  beyond-is P D hP hD i l =
-      let w = parts-unique n t b D P (vt .connected) (vt .big) (hD .parts) (hP .parts) in
-      let at-u = w .1 u (joins-nodes n t b vt lb u z jb .0)
-      ∙ ap (λ (x : Bool). w .0 ⊕ x) (u-behind P hP) in
+  beyond-is {P} hP hD i l =
+      let w = parts-unique (vt .connected) (vt .big) (hD .parts) (hP .parts) in
+      let at-u = w .1 u (joins-nodes b vt lb u z jb .0)
+      ∙ ap (λ (x : Bool). w .0 ⊕ x) (u-behind hP) in
       let turned = xor-at-true (w .0) false (sym (sym (hD .out) ∙ at-u)) in
       w .1 i l ∙ ap (λ (x : Bool). x ⊕ has P i) turned
 
@@ -218,7 +215,7 @@ module _ {n : ℕ} {t : List ℕ} {b u z : ℕ} (vt : Valid n t) (jb : Joins t b
   unfolding inSome
   exact (done {g = g} {D} vz eb qu hD tx) P I i l =
       let hP = at-b vz eb I in
-      or-false (has g i) ∙ tx i l ∙ beyond-is P D hP hD i (node i l)
+      or-false (has g i) ∙ tx i l ∙ beyond-is hP hD i (node i l)
   exact (next {v} {H = H} eb hb f hH tx rest) P I i l =
       let after = exact rest (joined P H v) (behind f I hH) i l ∙ ap not (behind-taxa f I hH i l) in
       ap₂ _||_ (tx i l) after
@@ -243,7 +240,7 @@ module _ {n : ℕ} {t : List ℕ} {b u z : ℕ} (vt : Valid n t) (jb : Joins t b
   exact-cut (c ∷ ls) (done {D = D} vz eb qu hD tx) bs eq P I i l =
       let hP = at-b vz eb (I .hang) in
       let c-is = sym (ap (λ (y : ℕ). has y i) (head-eq-of-cons-eq eq)) ∙ tx i l in
-      empty (tail-eq-of-cons-eq eq) (c-is ∙ beyond-is P D hP hD i (node i l))
+      empty (tail-eq-of-cons-eq eq) (c-is ∙ beyond-is hP hD i (node i l))
     where
       empty : [] ≡ ls ++ bs → has c i ≡ not (has P i)
           → inSome bs i ≡ not (has P i || (has c i || inSome ls i))
@@ -285,8 +282,7 @@ module _ {n : ℕ} {t : List ℕ} {b u z : ℕ} (vt : Valid n t) (jb : Joins t b
   cut-rows (c ∷ ls) (next {v} {g = g′} {H} eb hb f hH tx rest) bs g eq P I =
       let c-is : (i : ℕ) → has g′ i ≡ has c i
       = λ i. ap (λ (y : ℕ). has y i) (head-eq-of-cons-eq eq) in
-      row-eq n t (λ i. has (joined P H v) i || inSome ls i)
-      (λ i. has P i || (has c i || inSome ls i))
+      row-eq (λ i. has (joined P H v) i || inSome ls i) (λ i. has P i || (has c i || inSome ls i))
       (λ i l. ap (λ (y : Bool). y || inSome ls i)
       (behind-taxa f (I .hang) hH i l ∙ ap (λ (y : Bool). has P i || y) (sym (tx i l) ∙ c-is i))
       ∙ or-assoc (has P i) (has c i) (inSome ls i))

@@ -1,172 +1,88 @@
 -- `newick_labels::read` meets its contract. Assumes nothing.
-use mathlib.Core.Path.{_∙_, sym}
-use native.Mathlib.Omega.{arith}
-use borrow.Author.Tests.{not-true, not-false}
-use Rattle.newick_labels.proofs.LabelLaws.{missed-byte, missed-digit, found-zero, found-one}
-use Rattle.newick_labels.proofs.LabelLaws.{found-two, missed-single, missed-double}
+use mathlib.Core.Path.{_≡_, _∙_, sym}
+use mathlib.Core.Bool.{true}
+use Prim.Native.Nat.{_+_, _<_}
+use Rattle.taxa.proofs.Bools.{told-true, told-false}
+use Rattle.newick_labels.specs.Between.{valueAt, begun}
+use Rattle.newick_labels.proofs.LabelLaws.{Digit, Digits, missed-byte, missed-digit}
+use Rattle.newick_labels.proofs.LabelLaws.{found-zero, found-one, found-two}
+use Rattle.newick_labels.proofs.LabelLaws.{missed-single, missed-double}
 use borrow.Author.Needs.{needs}
 use Rattle.newick_labels.proofs.read.Statement.{statement}
 use Rattle.newick_labels.proofs.read.Tie as tie
 
-value-at-requires : tie.Need-value-at-requires
-value-at-requires c κs = search needs
+-- past the first test a digit stands at the place
+abbrev entry : tie.Else1 → tie.Start
+entry c = c .before .before .before
+
+first : (c : tie.Else1)
+    → let a = entry c .args in Digit (a .s .now) (a .at) (a .allowed) (c .before .value-at .result)
+first c = search needs
+
+-- past the second a taxon begins with it
+abbrev past-first : tie.Else2 → tie.Else1
+past-first c = c .before .before
+
+starts : (c : tie.Else2)
+    → let d = past-first c in begun (entry d .args .allowed) (d .before .value-at .result) ≡ true
+starts c = told-true (c .before .begins .ensures) (c .if2 .left)
+
+-- no digit follows, and the code asked whether the first is a taxon
+abbrev past-start : tie.After-among → tie.Else2
+past-start c = c .before .before .before .before
+
+ends : (c : tie.After-among)
+    → let a = entry (past-first (past-start c)) .args in 9 < valueAt (a .s .now) (a .at + 1)
+ends c = rw (c .before .before .value-at2 .ensures) at (c .before .if4 .taken)
+
+-- a second digit follows
+past-two : (c : tie.Else4)
+    → let d = past-first (c .before .before .before) in
+    let a = entry d .args in
+    Digits (a .s .now) (a .at) (a .allowed) (d .before .value-at .result)
+    (c .before .value-at2 .result)
+past-two c =
+    let f = first (past-first (c .before .before .before)) in
+    search needs
 
 returns : tie.Need-returns
 returns c =
-    let at-value-at = c .before in
-    let st = at-value-at .before .before in
-    let a = st .args in
-    missed-byte (a .s .now) (a .at) (a .allowed) (search needs) (st .pre)
-    (rw (at-value-at .value-at .ensures) at (c .if1 .taken))
-
-begins-requires : tie.Need-begins-requires
-begins-requires c κs = search needs
+    missed-byte (search needs) (c .before .before .before .pre)
+    (rw (c .before .value-at .ensures) at (c .if1 .taken))
 
 returns-2 : tie.Need-returns-2
 returns-2 c =
-    let at-begins = c .before in
-    let at-if1 = at-begins .before in
-    let at-value-at = at-if1 .before in
-    let st = at-value-at .before .before in
-    let a = st .args in
-    missed-digit (a .s .now) (a .at) (a .allowed) (search needs) (st .pre)
-    (at-value-at .value-at .result) (at-value-at .value-at .ensures)
-    (omega (arith, at-if1 .if1 .left)) (sym (at-begins .begins .ensures) ∙ not-true
-    (at-begins .begins .result) (c .if2 .taken))
-
-add-t9 : tie.Need-add-t9
-add-t9 c = search needs
+    missed-digit (first (c .before .before))
+    (told-false (c .before .begins .ensures) (c .if2 .taken))
 
 returns-3 : tie.Need-returns-3
-returns-3 c =
-    let at-if2 = c .before in
-    let at-begins = at-if2 .before in
-    let at-if1 = at-begins .before in
-    let at-value-at = at-if1 .before in
-    let st = at-value-at .before .before in
-    let a = st .args in
-    found-zero (a .s .now) (a .at) (a .allowed) (search needs) (st .pre)
-    (at-value-at .value-at .result) (at-value-at .value-at .ensures)
-    (omega (arith, at-if1 .if1 .left)) (sym (at-begins .begins .ensures) ∙ not-false
-    (at-begins .begins .result) (at-if2 .if2 .left)) (omega (arith, c .if3 .taken))
-
-add-value-at : tie.Need-add-value-at
-add-value-at c = search needs
-
-value-at-requires-2 : tie.Need-value-at-requires-2
-value-at-requires-2 c κs = search needs
-
-among-requires : tie.Need-among-requires
-among-requires c κs = search needs
-
-add-t12 : tie.Need-add-t12
-add-t12 c = search needs
+returns-3 c = found-zero (first (past-first (c .before))) (starts (c .before)) (c .if3 .taken)
 
 returns-4 : tie.Need-returns-4
 returns-4 c =
-    let at-among = c .before in
-    let at-if4 = at-among .before in
-    let at-value-at2 = at-if4 .before in
-    let at-if1 = at-value-at2 .before .before .before .before in
-    let at-value-at = at-if1 .before in
-    let st = at-value-at .before .before in
-    let a = st .args in
-    found-one (a .s .now) (a .at) (a .allowed) (search needs) (st .pre)
-    (at-value-at .value-at .result) (at-value-at .value-at .ensures)
-    (omega (arith, at-if1 .if1 .left)) (rw (at-value-at2 .value-at2 .ensures) at
-    (at-if4 .if4 .taken)) (sym (at-among .among .ensures) ∙ c .if5 .taken)
-
-add-t13 : tie.Need-add-t13
-add-t13 c = search needs
+    found-one (first (past-first (past-start (c .before)))) (ends (c .before))
+    (sym (c .before .among .ensures) ∙ c .if5 .taken)
 
 returns-5 : tie.Need-returns-5
 returns-5 c =
-    let at-among = c .before in
-    let at-if4 = at-among .before in
-    let at-value-at2 = at-if4 .before in
-    let at-if2 = at-value-at2 .before .before in
-    let at-begins = at-if2 .before in
-    let at-if1 = at-begins .before in
-    let at-value-at = at-if1 .before in
-    let st = at-value-at .before .before in
-    let a = st .args in
-    missed-single (a .s .now) (a .at) (a .allowed) (search needs) (st .pre)
-    (at-value-at .value-at .result) (at-value-at .value-at .ensures)
-    (omega (arith, at-if1 .if1 .left)) (sym (at-begins .begins .ensures) ∙ not-false
-    (at-begins .begins .result) (at-if2 .if2 .left)) (rw (at-value-at2 .value-at2 .ensures) at
-    (at-if4 .if4 .taken)) (sym (at-among .among .ensures) ∙ c .if5 .left)
-
-mul-d : tie.Need-mul-d
-mul-d c = search needs
-
-add-d : tie.Need-add-d
-add-d c = search needs
-
-among-requires-2 : tie.Need-among-requires-2
-among-requires-2 c κs = search needs
-
-add-t15 : tie.Need-add-t15
-add-t15 c = search needs
+    let st = past-start (c .before) in
+    missed-single (first (past-first st)) (starts st) (ends (c .before))
+    (sym (c .before .among .ensures) ∙ c .if5 .left)
 
 returns-6 : tie.Need-returns-6
 returns-6 c =
-    let at-among2 = c .before in
-    let at-if4 = at-among2 .before in
-    let at-value-at2 = at-if4 .before in
-    let at-if3 = at-value-at2 .before in
-    let at-if1 = at-if3 .before .before .before in
-    let at-value-at = at-if1 .before in
-    let st = at-value-at .before .before in
-    let a = st .args in
-    found-two (a .s .now) (a .at) (a .allowed) (search needs) (st .pre)
-    (at-value-at .value-at .result) (at-value-at .value-at .ensures)
-    (omega (arith, at-if1 .if1 .left)) (at-value-at2 .value-at2 .result)
-    (at-value-at2 .value-at2 .ensures) (omega (arith, at-if4 .if4 .left))
-    (omega (arith, at-if3 .if3 .left)) (sym (at-among2 .among2 .ensures) ∙ c .if6 .taken)
-
-add-t10 : tie.Need-add-t10
-add-t10 c = search needs
+    found-two (past-two (c .before .before)) (sym (c .before .among2 .ensures) ∙ c .if6 .taken)
 
 returns-7 : tie.Need-returns-7
 returns-7 c =
-    let at-among2 = c .before in
-    let at-if4 = at-among2 .before in
-    let at-value-at2 = at-if4 .before in
-    let at-if3 = at-value-at2 .before in
-    let at-if2 = at-if3 .before in
-    let at-begins = at-if2 .before in
-    let at-if1 = at-begins .before in
-    let at-value-at = at-if1 .before in
-    let st = at-value-at .before .before in
-    let a = st .args in
-    missed-double (a .s .now) (a .at) (a .allowed) (search needs) (st .pre)
-    (at-value-at .value-at .result) (at-value-at .value-at .ensures)
-    (omega (arith, at-if1 .if1 .left)) (sym (at-begins .begins .ensures) ∙ not-false
-    (at-begins .begins .result) (at-if2 .if2 .left)) (at-value-at2 .value-at2 .result)
-    (at-value-at2 .value-at2 .ensures) (omega (arith, at-if4 .if4 .left))
-    (omega (arith, at-if3 .if3 .left)) (sym (at-among2 .among2 .ensures) ∙ c .if6 .left)
+    let d = c .before .before in
+    missed-double (past-two d) (starts (d .before .before .before))
+    (sym (c .before .among2 .ensures) ∙ c .if6 .left)
 
 pub read-spec : {M : Type 1} → statement M
 read-spec =
-    tie.close
-    (tie.spec
-    value-at-requires
-    returns
-    begins-requires
-    returns-2
-    add-t9
-    returns-3
-    add-value-at
-    value-at-requires-2
-    among-requires
-    add-t12
-    returns-4
-    add-t13
-    returns-5
-    mul-d
-    add-d
-    among-requires-2
-    add-t15
-    returns-6
-    add-t10
+    tie.close (tie.spec (λ c κs. search needs) returns (λ c κs. search needs) returns-2
+    (λ c. search needs) returns-3 (λ c. search needs) (λ c κs. search needs) (λ c κs. search needs)
+    (λ c. search needs) returns-4 (λ c. search needs) returns-5 (λ c. search needs)
+    (λ c. search needs) (λ c κs. search needs) (λ c. search needs) returns-6 (λ c. search needs)
     returns-7)

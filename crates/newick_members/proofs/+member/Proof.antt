@@ -1,20 +1,21 @@
 -- `newick_members::member` meets its contract. Assumes nothing.
-use mathlib.Core.Path.{_≡_, sym, ap, _∙_}
+use mathlib.Core.Path.{_≡_, ap}
 use mathlib.Core.Bool.{true}
 use native.Mathlib.Omega.{arith}
 use Prim.Native.Nat.{_+_, _-_, _≤_, ℕ, _<_}
 use lib.ListN.{length}
-use borrow.Author.Tests.{not-true, not-false}
+use Rattle.taxa.specs.Most.{most}
 use Rattle.taxa.specs.Sets.{size}
+use Rattle.taxa.proofs.Bools.{told-true, told-false}
 use Rattle.taxa.proofs.Sizes.{size-le}
 use Rattle.newick_grammar.specs.Newick.{opens, comma}
-use Rattle.newick_members.specs.Between.{here, ahead}
+use Rattle.newick_members.specs.Between.{here}
 use Rattle.newick_members.proofs.Places.{here-in}
-use Rattle.newick_members.proofs.StageLaws.{bad-again, read-is, ready-at, got-taxon}
-use Rattle.newick_members.proofs.StageLaws.{group-bad, left-ready, comma-bad, right-ready}
-use Rattle.newick_members.proofs.StageLaws.{to-close, got-group}
+use Rattle.newick_members.proofs.StageLaws.{LeftRead, BothRead, got-taxon, group-bad}
+use Rattle.newick_members.proofs.StageLaws.{left-ready, comma-bad, right-ready, to-close}
+use Rattle.newick_members.proofs.StageLaws.{got-group}
 use borrow.Author.Needs.{needs}
-use borrow.Fn.Kinds.{In}
+use borrow.Fn.Kinds.{In, Out}
 use borrow.Fn.PlainCycle.{Measures, is, falls, and}
 use Rattle.newick_members.proofs.member.Reads as member
 use Rattle.newick_members.proofs.member.Kinds as member-kinds
@@ -54,395 +55,194 @@ claims t = (
   close-reads.Learnt,
 )
 
-member-is-at-requires : (t : ℕ)
-    → member-lts.Need-is-at-requires (claims t) (member-at t) member.Post
-member-is-at-requires t c κs = search needs
+module _ (t : ℕ) where
+  -- a place of the code, or a need, with what the calls ask and give
+  abbrev Of : (member-lts.Claims → In 2 member-kinds.ps → Out 2 member-kinds.ps member-kinds.r
+      → Type 0) → Type 0
+  Of P = P (claims t) (member-at t) member.Post
 
-member-taxon-at-requires : (t : ℕ)
-    → member-lts.Need-taxon-at-requires (claims t) (member-at t) member.Post
-member-taxon-at-requires t c κs =
-    let st = c .before .before .before .before in
-    let a = st .args in
-    let s = a .s .now in
-    let n = a .n in
-    let u = a .table .now in
-    let k = a .c in
-    let m = a .least in
-    let o = a .more in
-    let R = st .pre .1 in
-    (R .slot .inside, R .big, R .few, R .slot .within)
+  -- past the first test a parenthesis opens a group at the cursor
+  abbrev entry : Of member-lts.Else1 → Of member-lts.Start
+  entry c = c .before .before .before .before
 
-member-returns : (t : ℕ) → member-lts.Need-returns (claims t) (member-at t) member.Post
-member-returns t c =
-    let at-if1 = c .before in
-    let at-is-at = at-if1 .before in
-    let st = at-is-at .before .before .before in
-    let a = st .args in
-    let s = a .s .now in
-    let n = a .n in
-    let u = a .table .now in
-    let k = a .c in
-    let m = a .least in
-    let o = a .more in
-    let R = st .pre .1 in
-    got-taxon n s u k m o R (sym (at-is-at .is-at .ensures) ∙ not-true _ (at-if1 .if1 .taken))
-    (c .taxon-at .result) (c .taxon-at .ensures)
+  opened : (c : Of member-lts.Else1)
+      → let a = entry c .args in here (a .s .now) (a .c .at) opens ≡ true
+  opened c = told-true (c .before .is-at .ensures) (c .if1 .left)
 
-member-size-requires : (t : ℕ) → member-lts.Need-size-requires (claims t) (member-at t) member.Post
-member-size-requires t c κs = search needs
+  inside : (c : Of member-lts.Else1) → let a = entry c .args in a .c .at < length (a .s .now)
+  inside c = here-in (entry c .args .s .now) _ opens (opened c)
 
-member-add-if2 : (t : ℕ) → member-lts.Need-add-if2 (claims t) (member-at t) member.Post
-member-add-if2 t c =
-    let st = c .before .before .before .before .before in
-    let a = st .args in
-    let s = a .s .now in
-    let n = a .n in
-    let u = a .table .now in
-    let k = a .c in
-    let m = a .least in
-    let o = a .more in
-    let R = st .pre .1 in
-    let z = size-le 64 (k .used) in
-    let e = c .size .ensures in
-    let r = R .slot .room in
-    let f = R .few in
-    search needs
+  -- past the second test there is room for a group
+  abbrev past-open : Of member-lts.Else2 → Of member-lts.Else1
+  past-open c = c .before .before
 
-member-add-if2-2 : (t : ℕ) → member-lts.Need-add-if2-2 (claims t) (member-at t) member.Post
-member-add-if2-2 t c =
-    let st = c .before .before .before .before .before in
-    let a = st .args in
-    let s = a .s .now in
-    let n = a .n in
-    let u = a .table .now in
-    let k = a .c in
-    let m = a .least in
-    let o = a .more in
-    let R = st .pre .1 in
-    let z = size-le 64 (k .used) in
-    let e = c .size .ensures in
-    let r = R .slot .room in
-    let f = R .few in
-    search needs
+  deep : (c : Of member-lts.Else2)
+      → let a = entry (past-open c) .args in size most (a .c .used) + a .least + 2 ≤ a .n
+  deep c = omega (arith, c .if2 .left, c .before .size .ensures)
 
-member-returns-2 : (t : ℕ) → member-lts.Need-returns-2 (claims t) (member-at t) member.Post
-member-returns-2 t c =
-    let at-size = c .before in
-    let at-if1 = at-size .before in
-    let at-is-at = at-if1 .before in
-    let st = at-is-at .before .before .before in
-    let a = st .args in
-    let s = a .s .now in
-    let n = a .n in
-    let u = a .table .now in
-    let k = a .c in
-    let m = a .least in
-    let o = a .more in
-    let R = st .pre .1 in
-    let H : here s (k .at) opens ≡ true = sym (at-is-at .is-at .ensures) ∙ not-false _
-    (at-if1 .if1 .left) in
-    group-bad n s u k m o R H (omega (arith, c .if2 .taken, at-size .size .ensures))
+  -- the first member is read
+  abbrev past-deep : Of member-lts.After-first → Of member-lts.Else2
+  past-deep c = c .before .before .before .before .before .before .before
 
-member-ahead-requires : (t : ℕ)
-    → member-lts.Need-ahead-requires (claims t) (member-at t) member.Post
-member-ahead-requires t c κs =
-    let at-if1 = c .before .before in
-    let at-is-at = at-if1 .before in
-    let st = at-is-at .before .before .before in
-    let a = st .args in
-    let s = a .s .now in
-    let n = a .n in
-    let u = a .table .now in
-    let k = a .c in
-    let m = a .least in
-    let o = a .more in
-    let R = st .pre .1 in
-    let H : here s (k .at) opens ≡ true = sym (at-is-at .is-at .ensures) ∙ not-false _
-    (at-if1 .if1 .left) in
-    let i = here-in s _ opens H in
-    let b = st .good .0 in
-    search needs
+  abbrev group-entry : Of member-lts.After-first → Of member-lts.Start
+  group-entry c = entry (past-open (past-deep c))
 
-member-add-member : (t : ℕ) → member-lts.Need-add-member (claims t) (member-at t) member.Post
-member-add-member t c =
-    let st = c .before .before .before .before .before .before .before in
-    let a = st .args in
-    let s = a .s .now in
-    let n = a .n in
-    let u = a .table .now in
-    let k = a .c in
-    let m = a .least in
-    let o = a .more in
-    let R = st .pre .1 in
-    let r = R .slot .room in
-    let f = R .few in
-    search needs
+  half : (c : Of member-lts.After-first)
+      → let a = group-entry c .args in
+      LeftRead (a .n) (a .s .now) (a .table .now) (a .c) (a .least) (a .more)
+      (c .before .before .before .before .member .last .1 .1 .1 .1 .1 .0) (c .first .given .0 .0)
+      (c .first .given .0 .1 .0)
+  half c =
+      let at-member = c .before .before .before .before in
+      record {
+        ready = group-entry c .pre .1;
+        opened = opened (past-open (past-deep c));
+        left = rw (at-member .before .before .ahead .ensures, c .first .given .1) at
+            (at-member .member .ensures);
+      }
 
-member-member-requires : (t : ℕ)
-    → member-lts.Need-member-requires (claims t) (member-at t) member.Post
-member-member-requires t c κs =
-    let at-ahead = c .before in
-    let at-if2 = at-ahead .before in
-    let at-size = at-if2 .before in
-    let at-if1 = at-size .before in
-    let at-is-at = at-if1 .before in
-    let st = at-is-at .before .before .before in
-    let a = st .args in
-    let s = a .s .now in
-    let n = a .n in
-    let u = a .table .now in
-    let k = a .c in
-    let m = a .least in
-    let o = a .more in
-    let R = st .pre .1 in
-    let H : here s (k .at) opens ≡ true = sym (at-is-at .is-at .ensures) ∙ not-false _
-    (at-if1 .if1 .left) in
-    let D : size 64 (k .used) + m + 2 ≤ n = omega (
-      arith,
-      at-if2 .if2 .left,
-      at-size .size .ensures,
-    ) in (
-      omega (arith, st .pre .0, here-in s _ opens H, ap (λ z. z .at) (at-ahead .ahead .ensures)),
-      ready-at n s u _ (ahead k) (m + 1) true (at-ahead .ahead .ensures) (left-ready n s u k m o R H
-          D),
-    )
+  -- a comma follows it
+  abbrev past-first : Of member-lts.Else3 → Of member-lts.After-first
+  past-first c = c .before .before .before
 
-member-enum-known-first : (t : ℕ)
-    → member-lts.Need-enum-known-first (claims t) (member-at t) member.Post
-member-enum-known-first t c = search needs
+  parted : (c : Of member-lts.Else3)
+      → let a = group-entry (past-first c) .args in
+      here (a .s .now) (past-first c .first .given .0 .0 .at) comma ≡ true
+  parted c = told-true (c .before .is-at2 .ensures) (c .if3 .left)
 
-member-enum-told : (t : ℕ) → member-lts.Need-enum-told (claims t) (member-at t) member.Post
-member-enum-told t c = search needs
+  next-inside : (c : Of member-lts.Else3)
+      → past-first c .first .given .0 .0 .at < length (group-entry (past-first c) .args .s .now)
+  next-inside c = here-in (group-entry (past-first c) .args .s .now) _ comma (parted c)
 
-member-same-length : (t : ℕ) → member-lts.Need-same-length (claims t) (member-at t) member.Post
-member-same-length t c = search needs
+  -- the second member is read
+  abbrev past-comma : Of member-lts.After-second → Of member-lts.Else3
+  past-comma c = c .before .before .before .before .before .before .before
 
-member-returns-3 : (t : ℕ) → member-lts.Need-returns-3 (claims t) (member-at t) member.Post
-member-returns-3 t c =
-    let at-member = c .before .before .before .before in
-    let st = at-member .before .before .before .before .before .before .before .before .before in
-    let a = st .args in
-    let s = a .s .now in
-    let n = a .n in
-    let u = a .table .now in
-    let k = a .c in
-    let m = a .least in
-    let o = a .more in
-    let R = st .pre .1 in
-    bad-again n s (at-member .member .result) _ k _ m _ o _ _ u _ _ (c .enum-told .given .1)
-    (at-member .member .ensures)
+  both : (c : Of member-lts.After-second)
+      → let a = group-entry (past-first (past-comma c)) .args in
+      BothRead (a .n) (a .s .now) (a .table .now) (a .c) (a .least) (a .more)
+      (c .before .before .before .before .member2 .last .1 .1 .1 .1 .1 .0)
+      (c .second .given .0 .0)
+      (past-first (past-comma c) .first .given .0 .1 .0) (c .second .given .0 .1 .0)
+  both c =
+      let at-member = c .before .before .before .before in
+      record {
+        table = _;
+        between = _;
+        half = half (past-first (past-comma c));
+        parted = parted (past-comma c);
+        right = rw (at-member .before .before .ahead2 .ensures, c .second .given .1) at
+            (at-member .member2 .ensures);
+      }
 
-member-is-at-requires-2 : (t : ℕ)
-    → member-lts.Need-is-at-requires-2 (claims t) (member-at t) member.Post
-member-is-at-requires-2 t c κs = search needs
+  member-is-at-requires : Of member-lts.Need-is-at-requires
+  member-is-at-requires c κs = search needs
 
-member-same-length-2 : (t : ℕ) → member-lts.Need-same-length-2 (claims t) (member-at t) member.Post
-member-same-length-2 t c = search needs
+  member-taxon-at-requires : Of member-lts.Need-taxon-at-requires
+  member-taxon-at-requires c κs =
+      let R = c .before .before .before .before .pre .1 in
+      (R .slot .inside, R .big, R .few, R .slot .within)
 
-member-returns-4 : (t : ℕ) → member-lts.Need-returns-4 (claims t) (member-at t) member.Post
-member-returns-4 t c =
-    let at-is-at2 = c .before in
-    let at-first = at-is-at2 .before .before in
-    let at-member = at-first .before .before .before .before in
-    let at-ahead = at-member .before .before in
-    let at-if2 = at-ahead .before in
-    let at-size = at-if2 .before in
-    let at-if1 = at-size .before in
-    let at-is-at = at-if1 .before in
-    let st = at-is-at .before .before .before in
-    let a = st .args in
-    let s = a .s .now in
-    let n = a .n in
-    let u = a .table .now in
-    let k = a .c in
-    let m = a .least in
-    let o = a .more in
-    let R = st .pre .1 in
-    let H : here s (k .at) opens ≡ true = sym (at-is-at .is-at .ensures) ∙ not-false _
-    (at-if1 .if1 .left) in
-    let D : size 64 (k .used) + m + 2 ≤ n = omega (
-      arith,
-      at-if2 .if2 .left,
-      at-size .size .ensures,
-    ) in
-    let L = read-is n s (at-member .member .result) _ (ahead k) _ (m + 1) _ true u _
-    (at-ahead .ahead .ensures) (at-first .first .given .1) (at-member .member .ensures) in
-    comma-bad n s u k m o R H D _ _ _ L (sym (at-is-at2 .is-at2 .ensures) ∙ not-true _
-    (c .if3 .taken))
+  member-returns : Of member-lts.Need-returns
+  member-returns c =
+      let at-is-at = c .before .before in
+      got-taxon (at-is-at .before .before .before .pre .1)
+      (told-false (at-is-at .is-at .ensures) (c .before .if1 .taken)) (c .taxon-at .result)
+      (c .taxon-at .ensures)
 
-member-ahead-requires-2 : (t : ℕ)
-    → member-lts.Need-ahead-requires-2 (claims t) (member-at t) member.Post
-member-ahead-requires-2 t c κs =
-    let at-is-at2 = c .before in
-    let st = at-is-at2 .before .before .before .before .before .before .before .before .before
-    .before .before .before .before .before .before in
-    let a = st .args in
-    let s = a .s .now in
-    let n = a .n in
-    let u = a .table .now in
-    let k = a .c in
-    let m = a .least in
-    let o = a .more in
-    let R = st .pre .1 in
-    let K : here s _ comma ≡ true = sym (at-is-at2 .is-at2 .ensures) ∙ not-false _ (c .if3 .left) in
-    let i = here-in s _ comma K in
-    let b = st .good .0 in
-    search needs
+  member-size-requires : Of member-lts.Need-size-requires
+  member-size-requires c κs = search needs
 
-member-member-requires-2 : (t : ℕ)
-    → member-lts.Need-member-requires-2 (claims t) (member-at t) member.Post
-member-member-requires-2 t c κs =
-    let at-ahead2 = c .before in
-    let at-if3 = at-ahead2 .before in
-    let at-is-at2 = at-if3 .before in
-    let at-first = at-is-at2 .before .before in
-    let at-member = at-first .before .before .before .before in
-    let at-ahead = at-member .before .before in
-    let at-if2 = at-ahead .before in
-    let at-size = at-if2 .before in
-    let at-if1 = at-size .before in
-    let at-is-at = at-if1 .before in
-    let st = at-is-at .before .before .before in
-    let a = st .args in
-    let s = a .s .now in
-    let n = a .n in
-    let u = a .table .now in
-    let k = a .c in
-    let m = a .least in
-    let o = a .more in
-    let R = st .pre .1 in
-    let H : here s (k .at) opens ≡ true = sym (at-is-at .is-at .ensures) ∙ not-false _
-    (at-if1 .if1 .left) in
-    let D : size 64 (k .used) + m + 2 ≤ n = omega (
-      arith,
-      at-if2 .if2 .left,
-      at-size .size .ensures,
-    ) in
-    let L = read-is n s (at-member .member .result) _ (ahead k) _ (m + 1) _ true u _
-    (at-ahead .ahead .ensures) (at-first .first .given .1) (at-member .member .ensures) in
-    let K : here s _ comma ≡ true = sym (at-is-at2 .is-at2 .ensures) ∙ not-false _
-    (at-if3 .if3 .left) in (
-      omega (
-        arith,
-        st .pre .0,
-        L .past .moved,
-        here-in s _ comma K,
-        ap (λ z. z .at)
-            (at-ahead2 .ahead2 .ensures),
-      ),
-      ready-at n s _ _ (ahead (at-first .first .given .0 .0)) m o
-          (at-ahead2 .ahead2 .ensures) (right-ready n s u k m o R H D _ _ _ L K),
-    )
+  member-add-if2 : Of member-lts.Need-add-if2
+  member-add-if2 c = let z = size-le most (entry (c .before) .args .c .used) in search needs
 
-member-enum-known-second : (t : ℕ)
-    → member-lts.Need-enum-known-second (claims t) (member-at t) member.Post
-member-enum-known-second t c = search needs
+  member-add-if2-2 : Of member-lts.Need-add-if2-2
+  member-add-if2-2 c = let z = size-le most (entry (c .before) .args .c .used) in search needs
 
-member-enum-told-2 : (t : ℕ) → member-lts.Need-enum-told-2 (claims t) (member-at t) member.Post
-member-enum-told-2 t c = search needs
+  member-returns-2 : Of member-lts.Need-returns-2
+  member-returns-2 c =
+      let at-if1 = c .before .before in
+      group-bad (entry at-if1 .pre .1) (opened at-if1)
+      (omega (arith, c .if2 .taken, c .before .size .ensures))
 
-member-same-length-3 : (t : ℕ) → member-lts.Need-same-length-3 (claims t) (member-at t) member.Post
-member-same-length-3 t c = search needs
+  member-ahead-requires : Of member-lts.Need-ahead-requires
+  member-ahead-requires c κs = let i = inside (past-open c) in search needs
 
-member-returns-5 : (t : ℕ) → member-lts.Need-returns-5 (claims t) (member-at t) member.Post
-member-returns-5 t c =
-    let at-member2 = c .before .before .before .before in
-    let st = at-member2 .before .before .before .before .before .before .before .before .before
-    .before .before .before .before .before .before .before .before .before .before in
-    let a = st .args in
-    let s = a .s .now in
-    let n = a .n in
-    let u = a .table .now in
-    let k = a .c in
-    let m = a .least in
-    let o = a .more in
-    let R = st .pre .1 in
-    bad-again n s (at-member2 .member2 .result) _ k _ m _ o _ _ u _ _ (c .enum-told2 .given .1)
-    (at-member2 .member2 .ensures)
+  member-add-member : Of member-lts.Need-add-member
+  member-add-member c = search needs
 
-member-close-requires : (t : ℕ)
-    → member-lts.Need-close-requires (claims t) (member-at t) member.Post
-member-close-requires t c κs =
-    let at-second = c .before .before in
-    let at-member2 = at-second .before .before .before .before in
-    let at-ahead2 = at-member2 .before .before in
-    let at-if3 = at-ahead2 .before in
-    let at-is-at2 = at-if3 .before in
-    let at-first = at-is-at2 .before .before in
-    let at-member = at-first .before .before .before .before in
-    let at-ahead = at-member .before .before in
-    let at-if2 = at-ahead .before in
-    let at-size = at-if2 .before in
-    let at-if1 = at-size .before in
-    let at-is-at = at-if1 .before in
-    let st = at-is-at .before .before .before in
-    let a = st .args in
-    let s = a .s .now in
-    let n = a .n in
-    let u = a .table .now in
-    let k = a .c in
-    let m = a .least in
-    let o = a .more in
-    let R = st .pre .1 in
-    let H : here s (k .at) opens ≡ true = sym (at-is-at .is-at .ensures) ∙ not-false _
-    (at-if1 .if1 .left) in
-    let D : size 64 (k .used) + m + 2 ≤ n = omega (
-      arith,
-      at-if2 .if2 .left,
-      at-size .size .ensures,
-    ) in
-    let L = read-is n s (at-member .member .result) _ (ahead k) _ (m + 1) _ true u _
-    (at-ahead .ahead .ensures) (at-first .first .given .1) (at-member .member .ensures) in
-    let K : here s _ comma ≡ true = sym (at-is-at2 .is-at2 .ensures) ∙ not-false _
-    (at-if3 .if3 .left) in
-    let Q = read-is n s (at-member2 .member2 .result) _ (ahead (at-first .first .given .0 .0)) _ m _
-    o _ _ (at-ahead2 .ahead2 .ensures) (at-second .second .given .1)
-    (at-member2 .member2 .ensures) in
-    to-close n s u k m o R H D _ _ _ L K _ _ _ Q
+  member-member-requires : Of member-lts.Need-member-requires
+  member-member-requires c κs =
+      let e = c .before .ahead .ensures in
+      let at-if1 = past-open (c .before .before) in
+      let st = entry at-if1 in (
+        omega (arith, st .pre .0, inside at-if1, ap (λ z. z .at) e),
+        rw e (left-ready (st .pre .1) (opened at-if1) (deep (c .before .before))),
+      )
 
-member-same-length-4 : (t : ℕ) → member-lts.Need-same-length-4 (claims t) (member-at t) member.Post
-member-same-length-4 t c = search needs
+  member-enum-known-first : Of member-lts.Need-enum-known-first
+  member-enum-known-first c = search needs
 
-member-returns-6 : (t : ℕ) → member-lts.Need-returns-6 (claims t) (member-at t) member.Post
-member-returns-6 t c =
-    let at-close = c .before .before in
-    let at-second = at-close .before .before .before in
-    let at-member2 = at-second .before .before .before .before in
-    let at-ahead2 = at-member2 .before .before in
-    let at-if3 = at-ahead2 .before in
-    let at-is-at2 = at-if3 .before in
-    let at-first = at-is-at2 .before .before in
-    let at-member = at-first .before .before .before .before in
-    let at-ahead = at-member .before .before in
-    let at-if2 = at-ahead .before in
-    let at-size = at-if2 .before in
-    let at-if1 = at-size .before in
-    let at-is-at = at-if1 .before in
-    let st = at-is-at .before .before .before in
-    let a = st .args in
-    let s = a .s .now in
-    let n = a .n in
-    let u = a .table .now in
-    let k = a .c in
-    let m = a .least in
-    let o = a .more in
-    let R = st .pre .1 in
-    let H : here s (k .at) opens ≡ true = sym (at-is-at .is-at .ensures) ∙ not-false _
-    (at-if1 .if1 .left) in
-    let D : size 64 (k .used) + m + 2 ≤ n = omega (
-      arith,
-      at-if2 .if2 .left,
-      at-size .size .ensures,
-    ) in
-    let L = read-is n s (at-member .member .result) _ (ahead k) _ (m + 1) _ true u _
-    (at-ahead .ahead .ensures) (at-first .first .given .1) (at-member .member .ensures) in
-    let K : here s _ comma ≡ true = sym (at-is-at2 .is-at2 .ensures) ∙ not-false _
-    (at-if3 .if3 .left) in
-    let Q = read-is n s (at-member2 .member2 .result) _ (ahead (at-first .first .given .0 .0)) _ m _
-    o _ _ (at-ahead2 .ahead2 .ensures) (at-second .second .given .1)
-    (at-member2 .member2 .ensures) in
-    got-group n s u k m o R H D _ _ _ L K _ _ _ Q _ (at-close .close .result)
-    (at-close .close .ensures)
+  member-enum-told : Of member-lts.Need-enum-told
+  member-enum-told c = search needs
+
+  member-same-length : Of member-lts.Need-same-length
+  member-same-length c = search needs
+
+  member-returns-3 : Of member-lts.Need-returns-3
+  member-returns-3 c =
+      let e = c .enum-told .given .1 in
+      rw e (rw e at (c .before .before .before .before .member .ensures))
+
+  member-is-at-requires-2 : Of member-lts.Need-is-at-requires-2
+  member-is-at-requires-2 c κs = search needs
+
+  member-same-length-2 : Of member-lts.Need-same-length-2
+  member-same-length-2 c = search needs
+
+  member-returns-4 : Of member-lts.Need-returns-4
+  member-returns-4 c =
+      comma-bad (half (c .before .before .before))
+      (told-false (c .before .is-at2 .ensures) (c .if3 .taken))
+
+  member-ahead-requires-2 : Of member-lts.Need-ahead-requires-2
+  member-ahead-requires-2 c κs = let i = next-inside c in search needs
+
+  member-member-requires-2 : Of member-lts.Need-member-requires-2
+  member-member-requires-2 c κs =
+      let e = c .before .ahead2 .ensures in
+      let at-if3 = c .before .before in
+      let H = half (past-first at-if3) in
+      let st = group-entry (past-first at-if3) in (
+        omega (arith, st .pre .0, H .left .past .moved, next-inside at-if3, ap (λ z. z .at) e),
+        rw e (right-ready H (parted at-if3)),
+      )
+
+  member-enum-known-second : Of member-lts.Need-enum-known-second
+  member-enum-known-second c = search needs
+
+  member-enum-told-2 : Of member-lts.Need-enum-told-2
+  member-enum-told-2 c = search needs
+
+  member-same-length-3 : Of member-lts.Need-same-length-3
+  member-same-length-3 c = search needs
+
+  member-returns-5 : Of member-lts.Need-returns-5
+  member-returns-5 c =
+      let e = c .enum-told2 .given .1 in
+      rw e (rw e at (c .before .before .before .before .member2 .ensures))
+
+  member-close-requires : Of member-lts.Need-close-requires
+  member-close-requires c κs = to-close (both (c .before .before))
+
+  member-same-length-4 : Of member-lts.Need-same-length-4
+  member-same-length-4 c = search needs
+
+  member-returns-6 : Of member-lts.Need-returns-6
+  member-returns-6 c =
+      let at-close = c .before .before in
+      got-group (both (at-close .before .before .before)) _ (at-close .close .result)
+      (at-close .close .ensures)
 
 pub +member-spec : {M : Type 1} → statement M
 +member-spec = close μ-member λ t. member-lts.spec (claims t)

@@ -4,9 +4,6 @@ use borrow.Author.Needs.{needs}
 use Rattle.newick_members.proofs.is_at.Statement.{statement}
 use Rattle.newick_members.proofs.is_at.Tie as tie
 
-shared-slice-read-result : tie.Need-shared-slice-read-result
-shared-slice-read-result c = search needs
-
 returns : tie.Need-returns
 returns c =
     rw (lt-ltb _ _ (c .before .if1 .taken))
@@ -16,4 +13,4 @@ returns-2 c =
     rw (le-ltb _ _ (c .if1 .left))
 
 pub is-at-spec : {M : Type 1} → statement M
-is-at-spec = tie.close (tie.spec shared-slice-read-result returns returns-2)
+is-at-spec = tie.close (tie.spec (λ c. search needs) returns returns-2)

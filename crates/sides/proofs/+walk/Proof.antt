@@ -1,9 +1,11 @@
 -- `sides::walk` meets its contract. Assumes nothing.
-use mathlib.Core.Path.{refl}
+use mathlib.Core.Path.{_≡_}
+use mathlib.Core.Bool.{false}
 use native.Mathlib.Omega.{arith}
+use Rattle.sides.specs.Between.{mark}
 use Rattle.sides.proofs.MarkLaws.{left, left-spread, mark-yes, mark-not}
 use Rattle.sides.proofs.WalkLaws.{v-lt, left-falls, notes, walked-marked, walked-taxon}
-use Rattle.sides.proofs.WalkLaws.{first-room, second-room}
+use Rattle.sides.proofs.WalkLaws.{Forked, first-room, second-room}
 use Rattle.sides.proofs.WalkLaws.{walks-first, walks-second, walked-inner}
 use Prim.Native.Nat.{ℕ, _<_}
 use borrow.Fn.Kinds.{In}
@@ -43,122 +45,104 @@ claims t = (
   walk.Post,
 )
 
-walk-element-copy-out-if1 : (t : ℕ)
-    → walk-lts.Need-element-copy-out-if1 (claims t) (walk-at t) walk.Post
-walk-element-copy-out-if1 t c =
-    let W = c .before .pre .1 in
-    omega (arith, v-lt W, W .rowed .ordered .few)
+module _ (t : ℕ) where
+  -- past the first test v has no mark
+  abbrev entry : walk-lts.Else1 (claims t) (walk-at t) walk.Post
+      → walk-lts.Start (claims t) (walk-at t) walk.Post
+  entry c = c .before .before .before
 
-walk-returns : (t : ℕ) → walk-lts.Need-returns (claims t) (walk-at t) walk.Post
-walk-returns t c =
-    let st = c .before .before .before in
-    walked-marked (st .pre .1) (mark-yes (st .args .marks .now) (st .args .v) (c .if1 .taken))
+  unmarked : (c : walk-lts.Else1 (claims t) (walk-at t) walk.Post)
+      → mark (entry c .args .marks .now) (entry c .args .v) ≡ false
+  unmarked c = mark-not _ _ (c .if1 .left)
 
-walk-element-write-marks : (t : ℕ)
-    → walk-lts.Need-element-write-marks (claims t) (walk-at t) walk.Post
-walk-element-write-marks t c =
-    let st = c .before .before .before in
-    let W = st .pre .1 in
-    omega (arith, v-lt W, W .rowed .ordered .few)
+  -- past the second v is an inner node, and the two other rows there are known
+  abbrev unseen : walk-lts.After-others (claims t) (walk-at t) walk.Post
+      → walk-lts.Else1 (claims t) (walk-at t) walk.Post
+  unseen c = c .before .before .before
 
-walk-only-requires : (t : ℕ) → walk-lts.Need-only-requires (claims t) (walk-at t) walk.Post
-walk-only-requires t c κs =
-    let st = c .before .before .before .before in
-    omega (arith, c .if2 .taken, st .pre .1 .rowed .ordered .few)
+  forked : (c : walk-lts.After-others (claims t) (walk-at t) walk.Post)
+      → let a = entry (unseen c) .args in
+      Forked (a .n) (a .t .now) (a .near .now) (a .marks .now) (a .sides .now) (a .e) (a .v)
+      (c .others .result .f) (c .others .result .g)
+  forked c = record {
+    walks = entry (unseen c) .pre .1;
+    fresh = unmarked (unseen c);
+    inner = c .before .before .if2 .left;
+    others = c .others .ensures;
+  }
 
-walk-note-requires : (t : ℕ) → walk-lts.Need-note-requires (claims t) (walk-at t) walk.Post
-walk-note-requires t c κs =
-    let st = c .before .before .before .before .before .before in
-    notes (st .pre .1)
+  -- past the walk across the first of them, the node across the second is known
+  abbrev past-first : walk-lts.After-far2 (claims t) (walk-at t) walk.Post
+      → walk-lts.After-far (claims t) (walk-at t) walk.Post
+  past-first c = c .before .before .before .before
 
-walk-returns-2 : (t : ℕ) → walk-lts.Need-returns-2 (claims t) (walk-at t) walk.Post
-walk-returns-2 t c =
-    let at-only = c .before .before in
-    let at-if2 = at-only .before in
-    let at-if1 = at-if2 .before in
-    let st = at-if1 .before .before .before in
-    let unmarked = mark-not (st .args .marks .now) (st .args .v) (at-if1 .if1 .left) in
-    walked-taxon (st .pre .1) unmarked (at-if2 .if2 .taken) (at-only .only .ensures)
-    (c .note .ensures)
+  walk-element-copy-out-if1 : walk-lts.Need-element-copy-out-if1 (claims t) (walk-at t) walk.Post
+  walk-element-copy-out-if1 c = v-lt (c .before .pre .1)
 
-walk-others-requires : (t : ℕ) → walk-lts.Need-others-requires (claims t) (walk-at t) walk.Post
-walk-others-requires t c κs =
-    let st = c .before .before .before .before .before in
-    let W = st .pre .1 in
-    (omega (arith, v-lt W, W .rowed .ordered .few), W .near .room)
+  walk-returns : walk-lts.Need-returns (claims t) (walk-at t) walk.Post
+  walk-returns c =
+      walked-marked (c .before .before .before .pre .1) (mark-yes _ _ (c .if1 .taken))
 
-walk-far-requires : (t : ℕ) → walk-lts.Need-far-requires (claims t) (walk-at t) walk.Post
-walk-far-requires t c κs =
-    let at-if2 = c .before .before in
-    let at-if1 = at-if2 .before in
-    let st = at-if1 .before .before .before in
-    let unmarked = mark-not (st .args .marks .now) (st .args .v) (at-if1 .if1 .left) in
-    first-room (st .pre .1) unmarked (at-if2 .if2 .left) (c .others .ensures)
+  walk-element-write-marks : walk-lts.Need-element-write-marks (claims t) (walk-at t) walk.Post
+  walk-element-write-marks c = v-lt (entry c .pre .1)
 
-walk-walk-requires : (t : ℕ) → walk-lts.Need-walk-requires (claims t) (walk-at t) walk.Post
-walk-walk-requires t c κs =
-    let at-far = c .before .before in
-    let at-others = at-far .before in
-    let at-if2 = at-others .before .before in
-    let at-if1 = at-if2 .before in
-    let st = at-if1 .before .before .before in
-    let W = st .pre .1 in
-    let unmarked = mark-not (st .args .marks .now) (st .args .v) (at-if1 .if1 .left) in
-    let fall = left-falls W unmarked in
-    let on = walks-first W unmarked (at-if2 .if2 .left) (at-others .others .ensures)
-    (at-far .far .ensures) refl in
-    (omega (arith, fall, st .pre .0), on)
+  walk-only-requires : walk-lts.Need-only-requires (claims t) (walk-at t) walk.Post
+  walk-only-requires c κs =
+      omega (arith, c .if2 .taken, entry (c .before) .pre .1 .rowed .ordered .few)
 
-walk-far-requires-2 : (t : ℕ) → walk-lts.Need-far-requires-2 (claims t) (walk-at t) walk.Post
-walk-far-requires-2 t c κs =
-    let at-others = c .before .before .before .before in
-    let at-if2 = at-others .before .before in
-    let at-if1 = at-if2 .before in
-    let st = at-if1 .before .before .before in
-    let unmarked = mark-not (st .args .marks .now) (st .args .v) (at-if1 .if1 .left) in
-    second-room (st .pre .1) unmarked (at-if2 .if2 .left) (at-others .others .ensures)
+  walk-note-requires : walk-lts.Need-note-requires (claims t) (walk-at t) walk.Post
+  walk-note-requires c κs = notes (entry (c .before .before .before) .pre .1)
 
-walk-walk-requires-2 : (t : ℕ) → walk-lts.Need-walk-requires-2 (claims t) (walk-at t) walk.Post
-walk-walk-requires-2 t c κs =
-    let at-far2 = c .before .before in
-    let at-walk = at-far2 .before in
-    let at-far = at-walk .before .before .before in
-    let at-others = at-far .before in
-    let at-if2 = at-others .before .before in
-    let at-if1 = at-if2 .before in
-    let st = at-if1 .before .before .before in
-    let W = st .pre .1 in
-    let first = at-walk .walk .ensures in
-    let unmarked = mark-not (st .args .marks .now) (st .args .v) (at-if1 .if1 .left) in
-    let fall = left-falls W unmarked in
-    let less = left-spread _ _ _ _ (first .visited .spread) in
-    let on = walks-second W unmarked (at-if2 .if2 .left) (at-others .others .ensures)
-    (at-far .far .ensures)
-    (at-far2 .far2 .ensures) first in
-    (omega (arith, fall, less, st .pre .0), on)
+  walk-returns-2 : walk-lts.Need-returns-2 (claims t) (walk-at t) walk.Post
+  walk-returns-2 c =
+      let at-only = c .before .before in
+      let at = at-only .before in
+      walked-taxon (entry (at .before) .pre .1) (unmarked (at .before)) (at .if2 .taken)
+      (at-only .only .ensures) (c .note .ensures)
 
-walk-note-requires-2 : (t : ℕ) → walk-lts.Need-note-requires-2 (claims t) (walk-at t) walk.Post
-walk-note-requires-2 t c κs =
-    let at-others =
-    c .before .before .before .before .before .before .before .before .before .before in
-    let st = at-others .before .before .before .before .before in
-    notes (st .pre .1)
+  walk-others-requires : walk-lts.Need-others-requires (claims t) (walk-at t) walk.Post
+  walk-others-requires c κs =
+      let W = entry (c .before .before) .pre .1 in
+      (v-lt W, W .near .room)
 
-walk-returns-3 : (t : ℕ) → walk-lts.Need-returns-3 (claims t) (walk-at t) walk.Post
-walk-returns-3 t c =
-    let at-walk2 = c .before .before in
-    let at-far2 = at-walk2 .before .before .before in
-    let at-walk = at-far2 .before in
-    let at-far = at-walk .before .before .before in
-    let at-others = at-far .before in
-    let at-if2 = at-others .before .before in
-    let at-if1 = at-if2 .before in
-    let st = at-if1 .before .before .before in
-    let unmarked = mark-not (st .args .marks .now) (st .args .v) (at-if1 .if1 .left) in
-    walked-inner (st .pre .1) unmarked (at-if2 .if2 .left) (at-others .others .ensures)
-    (at-far .far .ensures)
-    (at-far2 .far2 .ensures) (at-walk .walk .ensures) (at-walk2 .walk2 .ensures) refl
-    (c .note2 .ensures)
+  walk-far-requires : walk-lts.Need-far-requires (claims t) (walk-at t) walk.Post
+  walk-far-requires c κs = first-room (forked c)
+
+  walk-walk-requires : walk-lts.Need-walk-requires (claims t) (walk-at t) walk.Post
+  walk-walk-requires c κs =
+      let at = c .before .before in
+      let st = entry (unseen (at .before)) in (
+        omega (arith, left-falls (st .pre .1) (unmarked (unseen (at .before))), st .pre .0),
+        walks-first (forked (at .before)) (at .far .ensures),
+      )
+
+  walk-far-requires-2 : walk-lts.Need-far-requires-2 (claims t) (walk-at t) walk.Post
+  walk-far-requires-2 c κs = second-room (forked (c .before .before .before .before))
+
+  walk-walk-requires-2 : walk-lts.Need-walk-requires-2 (claims t) (walk-at t) walk.Post
+  walk-walk-requires-2 c κs =
+      let at-far2 = c .before .before in
+      let first = at-far2 .before .walk .ensures in
+      let at-far = past-first at-far2 in
+      let st = entry (unseen (at-far .before)) in
+      let fall = left-falls (st .pre .1) (unmarked (unseen (at-far .before))) in (
+        omega (arith, fall, left-spread (first .visited .spread), st .pre .0),
+        walks-second (forked (at-far .before)) (at-far .far .ensures) (at-far2 .far2 .ensures)
+            first,
+      )
+
+  walk-note-requires-2 : walk-lts.Need-note-requires-2 (claims t) (walk-at t) walk.Post
+  walk-note-requires-2 c κs =
+      let at-far = past-first (c .before .before .before .before) in
+      notes (entry (unseen (at-far .before)) .pre .1)
+
+  walk-returns-3 : walk-lts.Need-returns-3 (claims t) (walk-at t) walk.Post
+  walk-returns-3 c =
+      let at-walk2 = c .before .before in
+      let at-far2 = at-walk2 .before .before .before in
+      let at-far = past-first at-far2 in
+      walked-inner (forked (at-far .before)) (at-far .far .ensures) (at-far2 .far2 .ensures)
+      (at-far2 .before .walk .ensures) (at-walk2 .walk2 .ensures) (c .note2 .ensures)
 
 pub +walk-spec : {M : Type 1} → statement M
 +walk-spec = close μ-walk λ t. walk-lts.spec (claims t)

@@ -19,59 +19,27 @@ abbrev μ-loop : tie.MeasureT-loop
 μ-loop n marks m bad₀ v₀ bad v =
     nodes n - v
 
-mul-m : tie.Need-mul-m Inv-loop μ-loop
-mul-m c = search needs
-
-sub-m : tie.Need-sub-m Inv-loop μ-loop
-sub-m c = search needs
-
 loop-holds : tie.Need-loop-holds Inv-loop μ-loop
 unfolding every
 loop-holds c =
     (search needs, refl)
 
-element-copy-out-bad : tie.Need-element-copy-out-bad Inv-loop μ-loop
-element-copy-out-bad c = search needs
-
-cast-bad : tie.Need-cast-bad Inv-loop μ-loop
-cast-bad c = search needs
-
-add-v : tie.Need-add-v Inv-loop μ-loop
-add-v c = search needs
-
-loop-less : tie.Need-loop-less Inv-loop μ-loop
-loop-less c = search needs
-
 loop-again : tie.Need-loop-again Inv-loop μ-loop
 unfolding mark
 loop-again c =
-    let at-loop = c .before .before in
-    let st = at-loop .before in
-    let ms = st .args .marks .now in
-    let at = at-loop .loop in (
+    let at = c .before .before in (
       search needs,
-      gather-more (mark ms) (at .v) (at .bad) _ (at .inv .1)
-          (byte-none (eqb (getD ms (at .v) 0) 0)),
+      gather-more _ _ (at .loop .bad) _ (at .loop .inv .1)
+          (byte-none (eqb (getD (at .before .args .marks .now) (at .loop .v) 0) 0)),
     )
 
 returns : tie.Need-returns Inv-loop μ-loop
 returns c =
-    let at-loop = c .before in
-    let st = at-loop .before in
-    at-loop .loop .inv .1 ∙ ap (every (mark (st .args .marks .now))) (omega arith)
+    c .before .loop .inv .1
+    ∙ ap (every (mark (c .before .before .args .marks .now))) (omega arith)
 
 pub all-marked-spec : {M : Type 1} → statement M
 all-marked-spec =
-    tie.close
-    (tie.spec
-    Inv-loop
-    μ-loop
-    mul-m
-    sub-m
-    loop-holds
-    element-copy-out-bad
-    cast-bad
-    add-v
-    loop-less
-    loop-again
+    tie.close (tie.spec Inv-loop μ-loop (λ c. search needs) (λ c. search needs) loop-holds
+    (λ c. search needs) (λ c. search needs) (λ c. search needs) (λ c. search needs) loop-again
     returns)

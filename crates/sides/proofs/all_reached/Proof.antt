@@ -1,58 +1,55 @@
 -- `sides::all_reached` meets its contract. Assumes nothing.
 use mathlib.Core.Path.{_∙_}
-use Rattle.node_rows.proofs.PlaceLaws.{across-room}
-use Rattle.sides.proofs.WalkLaws.{zero-row, walks-start, start-reached, start-sides}
+use Rattle.sides.proofs.WalkLaws.{First, first-row, walks-start, start-reached, start-sides}
 use borrow.Author.Needs.{needs}
 use Rattle.sides.proofs.all_reached.Statement.{statement}
 use Rattle.sides.proofs.all_reached.Tie as tie
 
-array-write-marks : tie.Need-array-write-marks
-array-write-marks c = search needs
+-- past the first call the row at taxon 0 is known
+abbrev entry : tie.After-row-at → tie.Start
+entry c = c .before .before .before
+
+first : (c : tie.After-row-at) → let a = entry c .args in
+    First (a .n) (a .t .now) (a .near .now) (a .sides .now) (c .row-at .result)
+first c = record {
+  rowed = entry c .pre .0;
+  near = entry c .pre .1;
+  room = entry c .pre .2;
+  row = c .row-at .ensures;
+}
+
+-- past the walk every node that can be reached is marked
+abbrev past-far : tie.After-walk → tie.After-far
+past-far c = c .before .before .before
 
 row-at-requires : tie.Need-row-at-requires
 row-at-requires c κs =
     (search needs, search needs, c .before .before .pre .1 .room)
 
 far-requires : tie.Need-far-requires
-far-requires c κs =
-    let st = c .before .before .before in
-    across-room (st .args .n) (st .args .t .now) (st .pre .0) 0 (c .row-at .result)
-    (zero-row (st .pre .0) (st .pre .1) (c .row-at .ensures))
+far-requires c κs = first-row (first c)
 
 walk-requires : tie.Need-walk-requires
 walk-requires c κs =
-    let at-far = c .before .before in
-    let at-row = at-far .before in
-    let st = at-row .before .before .before in
-    walks-start (st .pre .0) (st .pre .1) (at-row .row-at .ensures) (at-far .far .ensures)
-    (st .pre .2)
+    let at = c .before .before in
+    walks-start (first (at .before)) (at .far .ensures)
 
 all-marked-requires : tie.Need-all-marked-requires
 all-marked-requires c κs =
-    let st = c .before .before .before .before .before .before .before .before in
-    (st .pre .0 .ordered .big, st .pre .0 .ordered .few)
+    let o = entry (past-far (c .before) .before) .pre .0 .ordered in
+    (o .big, o .few)
 
 returns : tie.Need-returns
 returns c =
     let at-walk = c .before .before in
-    let at-far = at-walk .before .before .before in
-    let at-row = at-far .before in
-    let st = at-row .before .before .before in
-    let row = at-row .row-at .ensures in
-    let node = at-far .far .ensures in
-    let walked = at-walk .walk .ensures in
+    let at = past-far at-walk in
+    let i = first (at .before) in
     record {
-      all = c .all-marked .ensures ∙ start-reached (st .pre .0) (st .pre .1) row node walked;
-      sides = start-sides (st .pre .0) (st .pre .1) row node walked (st .pre .2);
+      all = c .all-marked .ensures ∙ start-reached i (at .far .ensures) (at-walk .walk .ensures);
+      sides = start-sides i (at .far .ensures) (at-walk .walk .ensures);
     }
 
 pub all-reached-spec : {M : Type 1} → statement M
 all-reached-spec =
-    tie.close
-    (tie.spec
-    array-write-marks
-    row-at-requires
-    far-requires
-    walk-requires
-    all-marked-requires
-    returns)
+    tie.close (tie.spec (λ c. search needs) row-at-requires far-requires walk-requires
+    all-marked-requires returns)

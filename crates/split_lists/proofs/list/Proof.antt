@@ -1,149 +1,74 @@
 -- `split_lists::list` meets its contract. Assumes nothing.
-use mathlib.Core.Path.{_≡_, refl, sym, ap, _∙_, subst}
-use mathlib.Core.List.{List, []}
-use Prim.Native.Nat.{ℕ, _≤_, _-_}
-use native.Mathlib.Omega.{arith}
+use mathlib.Core.Path.{_≡_, refl, _∙_}
+use Prim.Native.Nat.{_-_}
+use lib.ListN.{getD}
 use Rattle.taxa.specs.Most.{most}
 use Rattle.tree.specs.Tree.{rows}
+use Rattle.tree.specs.Splits.{split}
 use Rattle.tree.proofs.SplitLaws.{split-wide}
-use Rattle.calls.specs.Between.{Wrote}
-use lib.ListN.{length}
-use Rattle.split_lists.specs.Between.{splitsOf}
-use Rattle.split_lists.proofs.ListLaws.{splits-none, low-lt, listed-none, listed-length}
-use Rattle.split_lists.proofs.ListLaws.{listed-fits, listed-room, listed-more}
+use Rattle.split_lists.proofs.ListLaws.{splits-none, low-lt}
+use Rattle.split_lists.proofs.ListLaws.{Listed, listed-none, listed-length, listed-fits}
+use Rattle.split_lists.proofs.ListLaws.{listed-all, listed-room, listed-more}
 use borrow.Author.Needs.{needs}
 use Rattle.split_lists.proofs.list.Statement.{statement}
 use Rattle.split_lists.proofs.list.Tie as tie
 
 abbrev Inv-loop : tie.InvT-loop
-Inv-loop n sides y out₀ low m len₀ i₀ out len i =
-    (i ≤ rows n) × Wrote length (splitsOf n y sides i) out₀ len out
+Inv-loop n sides y out₀ low m len₀ i₀ out len i = Listed n y sides out₀ len i out
 
 abbrev μ-loop : tie.MeasureT-loop
 μ-loop n sides y out₀ low m len₀ i₀ out len i =
     rows n - i
 
+-- past the call in the loop, the split of a row is known
+abbrev in-loop : tie.After-number Inv-loop μ-loop → tie.In-loop Inv-loop μ-loop
+in-loop c = c .before .before
+
+abbrev entry : tie.In-loop Inv-loop μ-loop → tie.Start Inv-loop μ-loop
+entry c = c .before .before .before .before .before
+
+of-row : (c : tie.After-number Inv-loop μ-loop)
+    → let at = in-loop c in
+    let a = entry at .args in
+    c .number .result ≡ split (a .n) (a .y) (getD (a .sides .now) (at .before .loop .i) 0)
+of-row c =
+    let p = entry (in-loop c) .pre in
+    c .number .ensures ∙ split-wide _ most _ _ (p .1) (p .2)
+
 returns : tie.Need-returns Inv-loop μ-loop
-returns c =
-    let s = c .before .before in
-    let e : splitsOf (s .args .n) (s .args .y) (s .args .sides .now) (rows (s .args .n)) ≡ [] =
-    ap (λ (z : ℕ). splitsOf (s .args .n) z (s .args .sides .now) (rows (s .args .n)))
-    (c .if1 .taken) ∙ splits-none (s .args .n) (s .args .sides .now) (rows (s .args .n)) in
-    subst (λ (l : List ℕ). Wrote length l (s .args .out .now) 0 (s .args .out .now)) (sym e)
-    (record { count = refl; memory = refl })
-
-lowest-requires : tie.Need-lowest-requires Inv-loop μ-loop
-lowest-requires c κs = search needs
-
-mul-m : tie.Need-mul-m Inv-loop μ-loop
-mul-m c =
-    let st = c .before .before .before in
-    omega (arith, st .pre .1)
-
-sub-m : tie.Need-sub-m Inv-loop μ-loop
-sub-m c =
-    let st = c .before .before .before in
-    omega (arith, st .pre .0)
+returns c = rw (c .if1 .taken, splits-none) (record { count = refl; memory = refl })
 
 loop-holds : tie.Need-loop-holds Inv-loop μ-loop
-loop-holds c =
-    let st = c .before .before .before in
-    let a = st .args in
-    (search needs, listed-none (a .n) (a .y) (a .sides .now) (a .out .now) (st .pre .3))
-
-mul-number : tie.Need-mul-number Inv-loop μ-loop
-mul-number c = search needs
-
-element-copy-out-number : tie.Need-element-copy-out-number Inv-loop μ-loop
-element-copy-out-number c =
-    let st = c .before .before .before .before .before in
-    omega (arith, st .pre .1)
+loop-holds c = listed-none (c .before .before .before .pre .3)
 
 number-requires : tie.Need-number-requires Inv-loop μ-loop
 number-requires c κs =
-    let at-lowest = c .before .before .before in
-    let at-if1 = at-lowest .before in
-    let st = at-if1 .before .before in
-    let a = st .args in (
-      at-lowest .lowest .ensures,
-      low-lt (a .n) (a .y) (at-lowest .lowest .result) (st .pre .1)
-          (st .pre .2) (at-if1 .if1 .left) (at-lowest .lowest .ensures),
-    )
+    let at = c .before .before .before in
+    let p = entry (c .before) .pre in
+    (at .lowest .ensures, low-lt (p .1) (p .2) (at .before .if1 .left) (at .lowest .ensures))
 
 add-requires : tie.Need-add-requires Inv-loop μ-loop
 add-requires c κs =
-    let at-number = c .before in
-    let at-loop-test = at-number .before .before in
-    let at-loop = at-loop-test .before in
-    let s = c .before .before .before .before .before .before .before .before in
-    let ex = at-number .number .ensures ∙ split-wide (s .args .n) most (s .args .y) _ (s .pre .1)
-    (s .pre .2) in (
-      listed-fits (s .args .n) (s .args .y) (s .args .sides .now) (s .args .out .now) (s .pre .3)
-          (at-loop .loop .out) (at-loop .loop .len) (at-loop .loop .i) (at-loop .loop .inv .0)
-          (at-loop .loop .inv .1),
-      listed-room (s .args .n) (s .args .y) (s .args .sides .now) (s .args .out .now) (s .pre .3)
-          (at-loop .loop .out) (at-loop .loop .len) (at-loop .loop .i) (at-loop .loop .inv .0)
-          (at-loop .loop .inv .1) (at-number .number .result) (at-loop-test .loop-test .taken) ex,
-    )
-
-add-i : tie.Need-add-i Inv-loop μ-loop
-add-i c = search needs
-
-loop-less : tie.Need-loop-less Inv-loop μ-loop
-loop-less c = search needs
+    let at = in-loop (c .before) in
+    let l = at .before .loop .inv in
+    (listed-fits l, listed-room l (at .loop-test .taken) (of-row (c .before)))
 
 loop-again : tie.Need-loop-again Inv-loop μ-loop
 loop-again c =
     let at-add = c .before .before in
     let at-number = at-add .before .before in
-    let at-loop-test = at-number .before .before in
-    let at-loop = at-loop-test .before in
-    let s = c .before .before .before .before .before .before .before .before .before .before
-    .before in
-    let ex = at-number .number .ensures ∙ split-wide (s .args .n) most (s .args .y) _ (s .pre .1)
-    (s .pre .2) in (
-      omega arith,
-      listed-more (s .args .n) (s .args .y) (s .args .sides .now) (s .args .out .now)
-          (s .pre .3) (at-loop .loop .out) (at-loop .loop .len) (at-loop .loop .i)
-          (at-loop .loop .inv .0)
-          (at-loop .loop .inv .1) (at-number .number .result) (at-loop-test .loop-test .taken) ex _
-          _
-          (at-add .add .ensures),
-    )
+    let at = in-loop at-number in
+    listed-more (at .before .loop .inv) (at .loop-test .taken) (of-row at-number)
+    (at-add .add .ensures)
 
 same-length : tie.Need-same-length Inv-loop μ-loop
-same-length c =
-    let at-loop = c .before in
-    let s = c .before .before .before .before .before in
-    listed-length (s .args .n) (s .args .y) (s .args .sides .now) (s .args .out .now) (s .pre .3)
-    (at-loop .loop .out) (at-loop .loop .len) (at-loop .loop .i) (at-loop .loop .inv .0)
-    (at-loop .loop .inv .1)
+same-length c = listed-length (c .before .loop .inv)
 
 returns-2 : tie.Need-returns-2 Inv-loop μ-loop
-returns-2 c =
-    let at-loop = c .before in
-    let s = c .before .before .before .before .before in
-    let done : at-loop .loop .i ≡ rows (s .args .n) = omega arith in
-    subst (λ (k : ℕ). Wrote length (splitsOf (s .args .n) (s .args .y) (s .args .sides .now) k)
-    (s .args .out .now) (at-loop .loop .len) (at-loop .loop .out)) done (at-loop .loop .inv .1)
+returns-2 c = listed-all (c .before .loop .inv) (c .loop-test .left)
 
 pub list-spec : {M : Type 1} → statement M
 list-spec =
-    tie.close
-    (tie.spec
-    Inv-loop
-    μ-loop
-    returns
-    lowest-requires
-    mul-m
-    sub-m
-    loop-holds
-    mul-number
-    element-copy-out-number
-    number-requires
-    add-requires
-    add-i
-    loop-less
-    loop-again
-    same-length
-    returns-2)
+    tie.close (tie.spec Inv-loop μ-loop returns (λ c κs. search needs) (λ c. search needs)
+    (λ c. search needs) loop-holds (λ c. search needs) (λ c. search needs) number-requires
+    add-requires (λ c. search needs) (λ c. search needs) loop-again same-length returns-2)

@@ -1,82 +1,62 @@
 -- `splits::compare_second` meets its contract. Assumes nothing.
-use Rattle.tree.specs.Tree.{rows}
-use Rattle.taxa.specs.Most.{most}
-use lib.ListN.{length-replicate}
-use Prim.Native.Nat.{ℕ}
-use mathlib.Core.Path.{refl, sym, _∙_}
+use mathlib.Core.Path.{sym, _∙_}
 use native.Mathlib.Omega.{arith}
 use borrow.Author.Tests.{ltb-true}
-use Rattle.sides.proofs.LookLaws.{found-looked, found-refused, looked-sided}
+use Rattle.tree.specs.Refusals.{Accepted}
+use Rattle.sides.proofs.LookLaws.{found-looked, looked-sided}
+use Rattle.splits.proofs.ListLaws.{Within}
 use Rattle.splits.proofs.SaidLaws.{compares-second, compares-6, compares-both}
 use borrow.Author.Needs.{needs}
 use Rattle.splits.proofs.compare_second.Statement.{statement}
 use Rattle.splits.proofs.compare_second.Tie as tie
 
-look-requires : tie.Need-look-requires
-look-requires c κs =
-    (refl, length-replicate {A = ℕ} (rows most) 0)
+-- where the second table is a tree too
+abbrev entry : tie.After-enum-told → tie.Start
+entry c = c .before .before .before .before .before .before .before
 
-enum-known-answer : tie.Need-enum-known-answer
-enum-known-answer c = search needs
+second : (c : tie.After-enum-told) → let a = entry c .args in Accepted (a .n) (a .u .now)
+second c = found-looked (c .before .before .look .ensures) (c .enum-told .given .1) .good
 
-enum-told : tie.Need-enum-told
-enum-told c = search needs
+-- past the test the partition names none but the taxa
+within : (c : tie.Then1) → let a = entry (c .before .before) .args in
+    Within (a .n) (a .t .now) (a .y)
+within c = record {
+  good = entry (c .before .before) .pre .good;
+  bound = sym (c .before .within .ensures) ∙ c .if1 .taken;
+}
 
 within-requires : tie.Need-within-requires
 within-requires c κs =
-    let st = c .before .before .before .before .before .before .before in
-    (omega (arith, st .pre .good .valid .big), st .pre .good .few)
+    let good = entry c .pre .good in
+    (omega (arith, good .valid .big), good .few)
 
 compare-trees-requires : tie.Need-compare-trees-requires
 compare-trees-requires c κs =
-    let at-if1 = c .before in
-    let at-within = at-if1 .before in
-    let at-enum-told = at-within .before in
-    let at-look = at-enum-told .before .before in
-    let s = c .before .before .before .before .before .before .before .before .before .before in
-    let w = found-looked (at-look .look .ensures) (at-enum-told .enum-told .given .1) in
-    (s .pre, looked-sided w, ltb-true _ _ (sym (at-within .within .ensures) ∙ at-if1 .if1 .taken))
+    let at = c .before .before .before in (
+      entry at .pre,
+      looked-sided (found-looked (at .before .before .look .ensures) (at .enum-told .given .1)),
+      ltb-true _ _ (within (c .before) .bound),
+    )
 
 returns : tie.Need-returns
 returns c =
-    let at-if1 = c .before .before in
-    let at-within = at-if1 .before in
-    let at-enum-told = at-within .before in
-    let at-look = at-enum-told .before .before in
-    let s = c .before .before .before .before .before .before .before .before .before .before
-    .before in
-    let w = found-looked (at-look .look .ensures) (at-enum-told .enum-told .given .1) in
-    compares-both (s .args .n) (s .args .t .now) (s .args .u .now) (s .args .y) (s .pre .good)
-    (w .good) (sym (at-within .within .ensures) ∙ at-if1 .if1 .taken) (c .compare-trees .result)
+    let at = c .before .before in
+    compares-both (within at) (second (at .before .before)) (c .compare-trees .result)
     (c .compare-trees .ensures)
 
 returns-2 : tie.Need-returns-2
 returns-2 c =
-    let at-answer = c .before in
-    let at-look = at-answer .before .before in
-    let s = c .before .before .before .before .before .before .before .before in
-    compares-second (s .args .n) (s .args .t .now) (s .args .u .now) (s .args .y) (s .pre .good) _
-    (found-refused (at-look .look .ensures) (at-answer .answer .given .1))
+    let at = c .before .before .before in
+    compares-second _ (at .before .before .before .before .before .pre .good) (at .look .ensures)
+    (c .before .answer .given .1)
 
 returns-3 : tie.Need-returns-3
 returns-3 c =
-    let at-within = c .before in
-    let at-enum-told = at-within .before in
-    let at-look = at-enum-told .before .before in
-    let s = c .before .before .before .before .before .before .before .before .before in
-    let w = found-looked (at-look .look .ensures) (at-enum-told .enum-told .given .1) in
-    compares-6 (s .args .n) (s .args .t .now) (s .args .u .now) (s .args .y) (s .pre .good)
-    (w .good) (sym (at-within .within .ensures) ∙ c .if1 .left)
+    let at = c .before .before in
+    compares-6 _ (entry at .pre .good) (second at)
+    (sym (c .before .within .ensures) ∙ c .if1 .left)
 
 pub compare-second-spec : {M : Type 1} → statement M
 compare-second-spec =
-    tie.close
-    (tie.spec
-    look-requires
-    enum-known-answer
-    enum-told
-    within-requires
-    compare-trees-requires
-    returns
-    returns-2
-    returns-3)
+    tie.close (tie.spec (λ c κs. search needs) (λ c. search needs) (λ c. search needs)
+    within-requires compare-trees-requires returns returns-2 returns-3)

@@ -1,43 +1,18 @@
 -- `splits::induced_splits` meets its contract. Assumes nothing.
-use Rattle.tree.specs.Tree.{rows}
-use Rattle.taxa.specs.Most.{most}
-use lib.ListN.{length-replicate}
-use Prim.Native.Nat.{ℕ}
-use mathlib.Core.Path.{refl}
-use Rattle.sides.proofs.LookLaws.{found-looked, found-refused, looked-sided}
+use Rattle.sides.proofs.LookLaws.{found-looked, looked-sided}
 use Rattle.splits.proofs.SaidLaws.{induces-tree}
 use borrow.Author.Needs.{needs}
 use Rattle.splits.proofs.induced_splits.Statement.{statement}
 use Rattle.splits.proofs.induced_splits.Tie as tie
 
-look-requires : tie.Need-look-requires
-look-requires c κs =
-    (refl, length-replicate {A = ℕ} (rows most) 0)
-
-enum-known-answer : tie.Need-enum-known-answer
-enum-known-answer c = search needs
-
-enum-told : tie.Need-enum-told
-enum-told c = search needs
-
 induced-tree-requires : tie.Need-induced-tree-requires
 induced-tree-requires c κs =
-    let at-enum-told = c .before .before in
-    let at-look = at-enum-told .before .before in
-    let s = c .before .before .before .before .before .before .before .before .before in
-    let w = found-looked (at-look .look .ensures) (at-enum-told .enum-told .given .1) in
-    looked-sided w
+    let told = c .before .before in
+    looked-sided (found-looked (told .before .before .look .ensures) (told .enum-told .given .1))
 
 returns : tie.Need-returns
 returns c =
-    let at-answer = c .before in
-    let at-look = at-answer .before .before in
-    let s = c .before .before .before .before .before .before .before .before in
-    induces-tree (s .args .n) (s .args .t .now) (s .args .y) (s .args .out .now) _
-    (found-refused (at-look .look .ensures) (at-answer .answer .given .1))
-
-same-length : tie.Need-same-length
-same-length c = search needs
+    induces-tree _ (c .before .before .before .look .ensures) (c .before .answer .given .1)
 
 returns-2 : tie.Need-returns-2
 returns-2 c =
@@ -45,12 +20,5 @@ returns-2 c =
 
 pub induced-splits-spec : {M : Type 1} → statement M
 induced-splits-spec =
-    tie.close
-    (tie.spec
-    look-requires
-    enum-known-answer
-    enum-told
-    induced-tree-requires
-    returns
-    same-length
-    returns-2)
+    tie.close (tie.spec (λ c κs. search needs) (λ c. search needs) (λ c. search needs)
+    induced-tree-requires returns (λ c. search needs) returns-2)

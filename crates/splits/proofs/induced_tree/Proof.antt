@@ -1,16 +1,43 @@
 -- `splits::induced_tree` meets its contract. Assumes nothing.
-use mathlib.Core.Path.{sym, ap, _∙_}
+use mathlib.Core.Path.{_≡_, sym, ap, _∙_}
+use Prim.Native.Nat.{_≤_}
 use native.Mathlib.Omega.{arith}
-use borrow.Author.Tests.{not-true, not-false, ltb-true}
+use lib.ListN.{length}
+use borrow.Author.Tests.{ltb-true}
 use Rattle.taxa.specs.Most.{most}
-use Rattle.taxa.specs.Sets.{size}
+use Rattle.taxa.proofs.Bools.{told-true, told-false}
 use Rattle.taxa.proofs.Sizes.{size-le}
-use Rattle.tree.specs.Splits.{members}
-use Rattle.splits.proofs.ListLaws.{needed}
+use Rattle.tree.specs.Splits.{members, splits}
+use Rattle.splits.proofs.ListLaws.{Within, needed}
 use Rattle.splits.proofs.SaidLaws.{induces-6, induces-11, induces-list}
 use borrow.Author.Needs.{needs}
 use Rattle.splits.proofs.induced_tree.Statement.{statement}
 use Rattle.splits.proofs.induced_tree.Tie as tie
+
+-- past the first test the partition names none but the taxa
+abbrev entry : tie.Else1 → tie.Start
+entry c = c .before .before .before .before
+
+within : (c : tie.Else1) → let a = entry c .args in Within (a .n) (a .t .now) (a .y)
+within c = record {
+  good = entry c .pre .good;
+  bound = told-true (c .before .within .ensures) (c .if1 .left);
+}
+
+-- past the third call it is known how many splits there are
+abbrev past-first : tie.After-members → tie.Else1
+past-first c = c .before .before
+
+asked : (c : tie.After-members) → let a = entry (past-first c) .args in
+    c .members .result ≡ length (splits (a .n) (a .t .now) (a .y))
+asked c =
+    c .members .ensures ∙ ap members (c .before .size .ensures)
+    ∙ sym (needed (within (past-first c)))
+
+-- past the second test there is room for them
+fits : (c : tie.Else2) → let a = entry (past-first (c .before)) .args in
+    length (splits (a .n) (a .t .now) (a .y)) ≤ length (a .out .now)
+fits c = omega (arith, c .if2 .left, asked (c .before))
 
 within-requires : tie.Need-within-requires
 within-requires c κs =
@@ -19,97 +46,29 @@ within-requires c κs =
 
 returns : tie.Need-returns
 returns c =
-    let s = c .before .before .before .before in
-    induces-6 (s .args .n) (s .args .t .now) (s .args .y) (s .args .out .now) (s .pre .good)
-    (sym (c .before .within .ensures) ∙ not-true (c .before .within .result) (c .if1 .taken))
-
-size-requires : tie.Need-size-requires
-size-requires c κs = search needs
+    induces-6 _ (c .before .before .before .before .pre .good)
+    (told-false (c .before .within .ensures) (c .if1 .taken))
 
 members-requires : tie.Need-members-requires
 members-requires c κs =
-    let st = c .before .before .before .before .before in
-    omega (arith, c .size .ensures, size-le most (st .args .y))
+    omega (arith, c .size .ensures, size-le most (entry (c .before) .args .y))
 
 returns-2 : tie.Need-returns-2
 returns-2 c =
-    let at-members = c .before in
-    let at-size = at-members .before in
-    let at-if1 = at-size .before in
-    let at-within = at-if1 .before in
-    let s = c .before .before .before .before .before .before .before in
-    let b = sym (at-within .within .ensures) ∙ not-false (at-within .within .result)
-    (at-if1 .if1 .left) in
-    let e = needed (s .args .n) (s .args .t .now) (s .args .y) (s .pre .good .valid)
-    (s .pre .good .few) (ltb-true _ _ b) in
-    induces-11 (s .args .n) (s .args .t .now) (s .args .y) (s .args .out .now) (s .pre .good) b
-    (omega (
-      arith,
-      c .if2 .taken,
-      at-members .members .ensures,
-      ap members (at-size .size .ensures),
-      e,
-    ))
+    induces-11 (within (past-first (c .before))) (omega (arith, c .if2 .taken, asked (c .before)))
 
 tree-splits-requires : tie.Need-tree-splits-requires
 tree-splits-requires c κs =
-    let at-if2 = c .before in
-    let at-members = at-if2 .before in
-    let at-size = at-members .before in
-    let at-if1 = at-size .before in
-    let at-within = at-if1 .before in
-    let s = c .before .before .before .before .before .before .before .before in
-    let b = sym (at-within .within .ensures) ∙ not-false (at-within .within .result)
-    (at-if1 .if1 .left) in
-    let e = needed (s .args .n) (s .args .t .now) (s .args .y) (s .pre .good .valid)
-    (s .pre .good .few) (ltb-true _ _ b) in (
-      s .pre,
-      ltb-true _ _ b,
-      omega (
-        arith,
-        at-if2 .if2 .left,
-        at-members .members .ensures,
-        ap members (at-size .size .ensures),
-        e,
-      ),
-    )
-
-same-length : tie.Need-same-length
-same-length c = search needs
+    let at = past-first (c .before .before) in
+    (entry at .pre, ltb-true _ _ (within at .bound), fits (c .before))
 
 returns-3 : tie.Need-returns-3
 returns-3 c =
-    let at-tree-splits = c .before .before in
-    let at-if2 = at-tree-splits .before .before in
-    let at-members = at-if2 .before in
-    let at-size = at-members .before in
-    let at-if1 = at-size .before in
-    let at-within = at-if1 .before in
-    let s = c .before .before .before .before .before .before .before .before .before .before
-    .before in
-    let b = sym (at-within .within .ensures) ∙ not-false (at-within .within .result)
-    (at-if1 .if1 .left) in
-    let e = needed (s .args .n) (s .args .t .now) (s .args .y) (s .pre .good .valid)
-    (s .pre .good .few) (ltb-true _ _ b) in
-    induces-list (s .args .n) (s .args .t .now) (s .args .y) (s .args .out .now) (s .pre .good) b
-    (omega (
-      arith,
-      at-if2 .if2 .left,
-      at-members .members .ensures,
-      ap members
-          (at-size .size .ensures),
-      e,
-    )) _ _ (at-tree-splits .tree-splits .ensures)
+    let at = c .before .before in
+    let last = at .before .before in
+    induces-list (within (past-first (last .before))) (fits last) (at .tree-splits .ensures)
 
 pub induced-tree-spec : {M : Type 1} → statement M
 induced-tree-spec =
-    tie.close
-    (tie.spec
-    within-requires
-    returns
-    size-requires
-    members-requires
-    returns-2
-    tree-splits-requires
-    same-length
-    returns-3)
+    tie.close (tie.spec within-requires returns (λ c κs. search needs) members-requires returns-2
+    tree-splits-requires (λ c. search needs) returns-3)

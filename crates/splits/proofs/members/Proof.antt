@@ -6,18 +6,10 @@ use Rattle.splits.proofs.members.Statement.{statement}
 use Rattle.splits.proofs.members.Tie as tie
 
 returns : tie.Need-returns
-returns c =
-    omega (arith, members-is (c .before .args .m))
-
-mul-result : tie.Need-mul-result
-mul-result c = search needs
-
-sub-result : tie.Need-sub-result
-sub-result c = search needs
+returns c = omega (arith, members-is (c .before .args .m))
 
 returns-2 : tie.Need-returns-2
-returns-2 c =
-    omega (arith, members-is (c .before .args .m))
+returns-2 c = omega (arith, members-is (c .before .args .m))
 
 pub members-spec : {M : Type 1} → statement M
-members-spec = tie.close (tie.spec returns mul-result sub-result returns-2)
+members-spec = tie.close (tie.spec returns (λ c. search needs) (λ c. search needs) returns-2)

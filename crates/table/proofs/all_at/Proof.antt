@@ -32,50 +32,24 @@ loop-holds c =
           (lt-ltb r (a .from) l))),
     )
 
-element-copy-out-bad : tie.Need-element-copy-out-bad Inv-loop μ-loop
-element-copy-out-bad c = search needs
-
-cast-bad : tie.Need-cast-bad Inv-loop μ-loop
-cast-bad c = search needs
-
-add-v : tie.Need-add-v Inv-loop μ-loop
-add-v c = search needs
-
-loop-less : tie.Need-loop-less Inv-loop μ-loop
-loop-less c = search needs
-
 loop-again : tie.Need-loop-again Inv-loop μ-loop
 loop-again c =
-    let at-loop = c .before .before in
-    let st = at-loop .before in
-    let a = st .args in
-    let at = at-loop .loop in
-    let here = eqb (getD (a .d .now) (at .v) 0) (a .k) in
-    let none = byte-none (not here) ∙ Bool·not-not here ∙ sym (ap (λ (b : Bool). b || here)
-    (le-ltb (at .v) (a .from) (at .inv .0))) in (
+    let at = c .before .before in
+    let a = at .before .args in
+    let here = eqb (getD (a .d .now) (at .loop .v) 0) (a .k) in (
       search needs,
       search needs,
-      gather-more (hasFrom (a .d .now) (a .from) (a .k)) (at .v)
-          (at .bad) _ (at .inv .2) none,
+      gather-more _ _ (at .loop .bad) _ (at .loop .inv .2)
+          (byte-none (not here) ∙ Bool·not-not here
+          ∙ sym (ap (λ (b : Bool). b || here) (le-ltb (at .loop .v) (a .from) (at .loop .inv .0)))),
     )
 
 returns : tie.Need-returns Inv-loop μ-loop
 returns c =
-    let at-loop = c .before in
-    let st = at-loop .before in
-    let a = st .args in
-    at-loop .loop .inv .2 ∙ ap (every (hasFrom (a .d .now) (a .from) (a .k))) (omega arith)
+    let a = c .before .before .args in
+    c .before .loop .inv .2 ∙ ap (every (hasFrom (a .d .now) (a .from) (a .k))) (omega arith)
 
 pub all-at-spec : {M : Type 1} → statement M
 all-at-spec =
-    tie.close
-    (tie.spec
-    Inv-loop
-    μ-loop
-    loop-holds
-    element-copy-out-bad
-    cast-bad
-    add-v
-    loop-less
-    loop-again
-    returns)
+    tie.close (tie.spec Inv-loop μ-loop loop-holds (λ c. search needs) (λ c. search needs)
+    (λ c. search needs) (λ c. search needs) loop-again returns)

@@ -1,11 +1,11 @@
 -- `table::degrees` meets its contract. Assumes nothing.
-use mathlib.Core.Path.{_≡_, refl, ap, subst}
-use Prim.Native.Nat.{ℕ, _≤_, _-_, _+_}
-use lib.ListN.{getD, set}
+use mathlib.Core.Path.{_≡_, subst}
+use Prim.Native.Nat.{ℕ, _≤_, _-_}
 use native.Mathlib.Omega.{arith}
 use Rattle.tree.specs.Tree.{rows}
 use Rattle.table.specs.Between.{Counted}
-use Rattle.table.proofs.Tallies.{counted-none, counted-more, lo-fits, hi-fits}
+use Rattle.table.proofs.Tallies.{Counting, counted-none, counted-more, a-lt, b-lt}
+use Rattle.table.proofs.Tallies.{a-fits, b-fits}
 use borrow.Author.Needs.{needs}
 use Rattle.table.proofs.degrees.Statement.{statement}
 use Rattle.table.proofs.degrees.Tie as tie
@@ -18,6 +18,21 @@ abbrev μ-loop : tie.MeasureT-loop
 μ-loop n t d₀ m i₀ d i =
     rows n - i
 
+-- both ends of a row are known
+counting : (c : tie.After-hi Inv-loop μ-loop)
+    → let at = c .before .before .before in
+    let a = at .before .before .args in
+    Counting (a .n) (a .t .now) (at .loop .d) (at .loop .i) (c .before .lo .result) (c .hi .result)
+counting c =
+    let at = c .before .before .before in
+    record {
+      ordered = at .before .before .pre;
+      row = c .before .before .loop-test .taken;
+      counted = at .loop .inv .1;
+      first = c .before .lo .ensures;
+      second = c .hi .ensures;
+    }
+
 mul-m : tie.Need-mul-m Inv-loop μ-loop
 mul-m c =
     omega (arith, c .before .pre .few)
@@ -27,140 +42,44 @@ sub-m c =
     omega (arith, c .before .pre .big)
 
 loop-holds : tie.Need-loop-holds Inv-loop μ-loop
-loop-holds c =
-    let st = c .before in
-    let a = st .args in
-    (search needs, counted-none (a .n) (a .t .now) (st .pre .few))
+loop-holds c = (search needs, counted-none _ _ (c .before .pre .few))
 
 lo-requires : tie.Need-lo-requires Inv-loop μ-loop
-lo-requires c κs =
-    let st = c .before .before .before in
-    omega (arith, st .pre .len)
+lo-requires c κs = omega (arith, c .before .before .before .pre .len)
 
 hi-requires : tie.Need-hi-requires Inv-loop μ-loop
-hi-requires c κs =
-    let st = c .before .before .before .before in
-    omega (arith, st .pre .len)
+hi-requires c κs = omega (arith, c .before .before .before .before .pre .len)
 
 array-read-d : tie.Need-array-read-d Inv-loop μ-loop
-array-read-d c =
-    let at-lo = c .before in
-    let at-loop-test = at-lo .before in
-    let at-loop = at-loop-test .before in
-    let st = at-loop .before .before in
-    let o = st .pre .order (at-loop .loop .i) (at-loop-test .loop-test .taken) in
-    omega (arith, at-lo .lo .ensures, o .0, o .1, st .pre .few)
+array-read-d c = a-lt (counting c)
 
 add-d : tie.Need-add-d Inv-loop μ-loop
-add-d c =
-    let at-lo = c .before in
-    let at-loop-test = at-lo .before in
-    let at-loop = at-loop-test .before in
-    let st = at-loop .before .before in
-    let a = st .args in
-    record {
-      fits = omega (
-        arith,
-        ap (λ (k : ℕ). getD (at-loop .loop .d) k 0) (at-lo .lo .ensures),
-        lo-fits (a .n) (a .t .now) (at-loop .loop .d) (at-loop .loop .i) (st .pre)
-            (at-loop-test .loop-test .taken) (at-loop .loop .inv .1),
-        st .pre .few,
-      );
-    }
+add-d c = record { fits = a-fits (counting c) }
 
 array-write-d : tie.Need-array-write-d Inv-loop μ-loop
-array-write-d c =
-    let at-lo = c .before in
-    let at-loop-test = at-lo .before in
-    let at-loop = at-loop-test .before in
-    let st = at-loop .before .before in
-    let o = st .pre .order (at-loop .loop .i) (at-loop-test .loop-test .taken) in
-    omega (arith, at-lo .lo .ensures, o .0, o .1, st .pre .few)
+array-write-d c = a-lt (counting c)
 
 array-read-d-2 : tie.Need-array-read-d-2 Inv-loop μ-loop
-array-read-d-2 c =
-    let at-loop-test = c .before .before in
-    let at-loop = at-loop-test .before in
-    let st = at-loop .before .before in
-    let o = st .pre .order (at-loop .loop .i) (at-loop-test .loop-test .taken) in
-    omega (arith, c .hi .ensures, o .1, st .pre .few)
+array-read-d-2 c = b-lt (counting c)
 
 add-d-2 : tie.Need-add-d-2 Inv-loop μ-loop
-add-d-2 c =
-    let at-lo = c .before in
-    let at-loop-test = at-lo .before in
-    let at-loop = at-loop-test .before in
-    let st = at-loop .before .before in
-    let a = st .args in
-    record {
-      fits = omega (
-        arith,
-        ap (λ (k : ℕ). getD (set (at-loop .loop .d) (at-lo .lo .result)
-            (getD (at-loop .loop .d) (at-lo .lo .result) 0 + 1)) k 0) (c .hi .ensures),
-        hi-fits (a .n)
-            (a .t .now) (at-loop .loop .d) (at-loop .loop .i) (st .pre)
-            (at-loop-test .loop-test .taken)
-            (at-loop .loop .inv .1) (at-lo .lo .result)
-            (getD (at-loop .loop .d) (at-lo .lo .result) 0 + 1)
-            (at-lo .lo .ensures) refl,
-        st .pre .few,
-      );
-    }
+add-d-2 c = record { fits = b-fits (counting c) }
 
 array-write-d-2 : tie.Need-array-write-d-2 Inv-loop μ-loop
-array-write-d-2 c =
-    let at-loop-test = c .before .before in
-    let at-loop = at-loop-test .before in
-    let st = at-loop .before .before in
-    let o = st .pre .order (at-loop .loop .i) (at-loop-test .loop-test .taken) in
-    omega (arith, c .hi .ensures, o .1, st .pre .few)
-
-add-i : tie.Need-add-i Inv-loop μ-loop
-add-i c = search needs
-
-loop-less : tie.Need-loop-less Inv-loop μ-loop
-loop-less c = search needs
+array-write-d-2 c = b-lt (counting c)
 
 loop-again : tie.Need-loop-again Inv-loop μ-loop
-loop-again c =
-    let at-lo = c .before in
-    let at-loop-test = at-lo .before in
-    let at-loop = at-loop-test .before in
-    let st = at-loop .before .before in
-    let a = st .args in (
-      omega arith,
-      counted-more (a .n) (a .t .now) (at-loop .loop .d) (at-loop .loop .i) (st .pre)
-          (at-loop-test .loop-test .taken) (at-loop .loop .inv .1) (at-lo .lo .result)
-          (c .hi .result) _ _
-          (at-lo .lo .ensures) (c .hi .ensures) refl refl,
-    )
+loop-again c = (omega arith, counted-more (counting c))
 
 returns : tie.Need-returns Inv-loop μ-loop
 returns c =
-    let at-loop = c .before in
-    let st = at-loop .before .before in
-    let a = st .args in
-    let done : at-loop .loop .i ≡ rows (a .n) = omega arith in
-    subst (λ (k : ℕ). Counted (a .n) (a .t .now) (at-loop .loop .d) k) done (at-loop .loop .inv .1)
+    let at = c .before in
+    let a = at .before .before .args in
+    let done : at .loop .i ≡ rows (a .n) = omega arith in
+    subst (λ (k : ℕ). Counted (a .n) (a .t .now) (at .loop .d) k) done (at .loop .inv .1)
 
 pub degrees-spec : {M : Type 1} → statement M
 degrees-spec =
-    tie.close
-    (tie.spec
-    Inv-loop
-    μ-loop
-    mul-m
-    sub-m
-    loop-holds
-    lo-requires
-    hi-requires
-    array-read-d
-    add-d
-    array-write-d
-    array-read-d-2
-    add-d-2
-    array-write-d-2
-    add-i
-    loop-less
-    loop-again
-    returns)
+    tie.close (tie.spec Inv-loop μ-loop mul-m sub-m loop-holds lo-requires hi-requires array-read-d
+    add-d array-write-d array-read-d-2 add-d-2 array-write-d-2 (λ c. search needs)
+    (λ c. search needs) loop-again returns)

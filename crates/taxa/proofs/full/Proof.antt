@@ -8,12 +8,6 @@ use borrow.Author.Needs.{needs}
 use Rattle.taxa.proofs.full.Statement.{statement}
 use Rattle.taxa.proofs.full.Tie as tie
 
-sub-only : tie.Need-sub-only
-sub-only c = search needs
-
-only-requires : tie.Need-only-requires
-only-requires c κs = search needs
-
 sub-result : tie.Need-sub-result
 sub-result c =
     omega (arith, c .only .ensures, pow-pos (c .before .args .n - 1))
@@ -27,4 +21,5 @@ returns c =
     rw (c .only .ensures) (full-is (c .before .args .n) (omega arith))
 
 pub full-spec : {M : Type 1} → statement M
-full-spec = tie.close (tie.spec sub-only only-requires sub-result add-result returns)
+full-spec =
+    tie.close (tie.spec (λ c. search needs) (λ c κs. search needs) sub-result add-result returns)

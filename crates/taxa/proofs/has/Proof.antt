@@ -4,13 +4,10 @@ use borrow.Author.Needs.{needs}
 use Rattle.taxa.proofs.has.Statement.{statement}
 use Rattle.taxa.proofs.has.Tie as tie
 
-shr-result : tie.Need-shr-result
-shr-result c = search needs
-
 returns : tie.Need-returns
 unfolding has
 returns c =
     search needs
 
 pub has-spec : {M : Type 1} → statement M
-has-spec = tie.close (tie.spec shr-result returns)
+has-spec = tie.close (tie.spec (λ c. search needs) returns)

@@ -5,12 +5,9 @@ use borrow.Author.Needs.{needs}
 use Rattle.taxa.proofs.only.Statement.{statement}
 use Rattle.taxa.proofs.only.Tie as tie
 
-shl-result : tie.Need-shl-result
-shl-result c = search needs
-
 returns : tie.Need-returns
 returns c =
     rw one-mul (mod-eq-of-lt (pow-lt (c .pre)))
 
 pub only-spec : {M : Type 1} → statement M
-only-spec = tie.close (tie.spec shl-result returns)
+only-spec = tie.close (tie.spec (λ c. search needs) returns)

@@ -6,9 +6,6 @@ use borrow.Author.Needs.{needs}
 use Rattle.taxa.proofs.within.Statement.{statement}
 use Rattle.taxa.proofs.within.Tie as tie
 
-full-requires : tie.Need-full-requires
-full-requires c κs = search needs
-
 returns : tie.Need-returns
 returns c =
     let st = c .before in
@@ -16,4 +13,4 @@ returns c =
     ap (leb (a .y)) (c .full .ensures) ∙ within-is (a .n) (a .y)
 
 pub within-spec : {M : Type 1} → statement M
-within-spec = tie.close (tie.spec full-requires returns)
+within-spec = tie.close (tie.spec (λ c κs. search needs) returns)

@@ -5,14 +5,8 @@ use borrow.Author.Needs.{needs}
 use Rattle.tusvlane.proofs.refused.Statement.{statement}
 use Rattle.tusvlane.proofs.refused.Tie as tie
 
-number-requires : tie.Need-number-requires
-number-requires c κs = search needs
-
-cast-k : tie.Need-cast-k
-cast-k c = search needs
-
 returns : tie.Need-returns
 returns c = ap (λ (x : ℕ). record { refusal = x; value = 0 }) (c .number .ensures)
 
 pub refused-spec : {M : Type 1} → statement M
-refused-spec = tie.close (tie.spec number-requires cast-k returns)
+refused-spec = tie.close (tie.spec (λ c κs. search needs) (λ c. search needs) returns)

@@ -1,52 +1,20 @@
 -- `tusvlane::tusvlane_judge_move` meets its contract. Assumes nothing.
-use mathlib.Core.Path.{refl, ap}
-use Rattle.calls.proofs.CallLaws.{call-as}
+use Rattle.calls.specs.Calls.{tells}
+use Rattle.group_rule.specs.Zeros.{zeros}
 use Rattle.judge.specs.Promises.{judgeSays}
 use Rattle.tusvlane.specs.Answers.{answerOf}
+use Rattle.tusvlane.proofs.AnswerLaws.{as-told}
 use borrow.Author.Needs.{needs}
 use Rattle.tusvlane.proofs.tusvlane_judge_move.Statement.{statement}
 use Rattle.tusvlane.proofs.tusvlane_judge_move.Tie as tie
 
-judge-move-requires : tie.Need-judge-move-requires
-judge-move-requires c κs = search needs
-
-enum-known-r : tie.Need-enum-known-r
-enum-known-r c = search needs
-
-refused-requires : tie.Need-refused-requires
-refused-requires c κs = search needs
-
-enum-known-k : tie.Need-enum-known-k
-enum-known-k c = search needs
-
-same-length : tie.Need-same-length
-same-length c = search needs
-
 returns : tie.Need-returns
-returns c =
-    let at-r = c .before .before in
-    let at-judge-move = at-r .before .before .before .before in
-    call-as answerOf (at-judge-move .judge-move .ensures) (ap judgeSays (at-r .r .given .1))
-    (c .refused .ensures)
-
-same-length-2 : tie.Need-same-length-2
-same-length-2 c = search needs
+returns c = search (as-told (tells zeros) judgeSays answerOf)
 
 returns-2 : tie.Need-returns-2
-returns-2 c =
-    let at-k = c .before in
-    let at-judge-move = at-k .before .before .before .before in
-    call-as answerOf (at-judge-move .judge-move .ensures) (ap judgeSays (at-k .k .given .1)) refl
+returns-2 c = search (as-told (tells zeros) judgeSays answerOf)
 
 pub tusvlane-judge-move-spec : {M : Type 1} → statement M
 tusvlane-judge-move-spec =
-    tie.close
-    (tie.spec
-    judge-move-requires
-    enum-known-r
-    refused-requires
-    enum-known-k
-    same-length
-    returns
-    same-length-2
-    returns-2)
+    tie.close (tie.spec (λ c κs. search needs) (λ c. search needs) (λ c κs. search needs)
+    (λ c. search needs) (λ c. search needs) returns (λ c. search needs) returns-2)
