@@ -10,17 +10,16 @@ use lib.ListN.{length, set, length-set}
 use borrow.Author.Tests.{eq-eqb, ne-eqb, lt-ltb, le-ltb}
 use Rattle.calls.proofs.StartLaws.{wrote-more}
 use Rattle.taxa.specs.Sets.{has, pick, size}
-use Rattle.taxa.proofs.Sizes.{size-le, size-pos}
+use Rattle.taxa.proofs.Sizes.{size-le}
 use Rattle.tree.specs.Tree.{lo, rows, nodes, touches, far, part}
-use Rattle.tree.proofs.Rounds.{part-start}
 use Rattle.tree.proofs.RowCounts.{Pair}
-use Rattle.tree.proofs.Ends.{end-node}
+use Rattle.tree.proofs.Ends.{end-node, far-end}
 use Rattle.node_rows.specs.Between.{OtherTwo}
 use Rattle.sides.specs.Between.{At, Looked}
 use Rattle.sides.proofs.FillLaws.{at-end, two}
 use Rattle.moves.specs.Groups.{beyond, leads, onward, aside, walk, stayed}
 use Rattle.moves.proofs.Ways.GroupLists.{snoc}
-use Rattle.moves.proofs.Ways.Leads.{Turn, turn, not-taxon, leads-beyond}
+use Rattle.moves.proofs.Ways.Leads.{Turn, turn, taxa-pos, taxa-less, not-taxon, leads-beyond}
 use Rattle.moves.proofs.Ways.Found.{on-is, off-is, walk-last, walk-next}
 use Rattle.moves.proofs.Tbr.Aims.{Aim, Taxon, Inner, kind, inner-groups}
 use Rattle.moves.specs.Between.{sideGroups}
@@ -44,14 +43,15 @@ listed-more {out = out} {c = c} x lm lo L = record {
   len = length-set out c x ∙ L .len;
 }
 
--- ---- the way from row a's end v, come to w by row e: c groups are written, and b lies ahead
+-- ---- the way from row a's end v, come to w by row e: c groups are written, for
+-- each of them a taxon is left behind, and b lies ahead
 pub record Walked (n : ℕ) (t : List ℕ) (b v a : ℕ) (o out : List ℕ) (w e c : ℕ) : Type 0 where
   pub here : At n t e w
   pub b-lt : b < rows n
   pub be : b ≡ e → ⊥
   pub ahead : has (part n t e w) (lo t b) ≡ true
   pub for-groups : length o ≡ room
-  pub fuel : c + size (nodes n) (part n t e w) ≤ nodes n
+  pub fuel : c + size n (part n t e w) ≤ n
   pub gs : List ℕ
   pub listed : Listed room gs o c out
   pub rest : gs ++ walk n t b (nodes n - c) w e ≡ walk n t b (nodes n) v a
@@ -125,7 +125,7 @@ module _ {n : ℕ} {t near s : List ℕ} {a : ℕ} {end : Side} {o : List ℕ}
         be = inner .ba;
         ahead = inner .there;
         for-groups = K .for-groups;
-        fuel = omega (arith, size-le (nodes n) (part n t a (end .node)));
+        fuel = omega (arith, size-le n (part n t a (end .node)));
         gs = [];
         listed = listed-none room o;
         rest = let z : nodes n - 0 ≡ nodes n = omega arith in
@@ -165,15 +165,20 @@ module _ {n : ℕ} {t : List ℕ} {b v a : ℕ} {o out : List ℕ} {w e c : ℕ}
   pub walked-inner : n ≤ w
   walked-inner = not-taxon (at-end (W .here)) (W .b-lt) (W .be) (W .ahead)
 
-  pub walked-lt : c < nodes n
-  walked-lt = omega (
+  walked-turn : Turn n t b e w (onward n t b w e) (aside n t b w e)
+  walked-turn = turn (at-end (W .here)) walked-inner (W .b-lt) (W .be) (W .ahead)
+
+  -- two taxa at least lie ahead, one beyond each of the two rows
+  pub walked-few : c + 2 ≤ n
+  walked-few = omega (
     arith,
     W .fuel,
-    size-pos (nodes n) (part n t e w) w (end-node (at-end (W .here))) (part-start n t e w),
+    taxa-less walked-turn,
+    taxa-pos (far-end (walked-turn .on-branch .at)),
   )
 
   left : nodes n - c ≡ suc (nodes n - (c + 1))
-  left = omega (arith, walked-lt)
+  left = omega (arith, walked-few)
 
   module _ {on off : ℕ} (P : Paced n t b w e on off) where
     h : on ≡ onward n t b w e
@@ -183,7 +188,7 @@ module _ {n : ℕ} {t : List ℕ} {b v a : ℕ} {o out : List ℕ} {w e c : ℕ}
     k = P .hangs-off
 
     T : Turn n t b e w on (aside n t b w e)
-    T = rw h (turn (at-end (W .here)) walked-inner (W .b-lt) (W .be) (W .ahead))
+    T = rw h walked-turn
 
     pub on-at : At n t on w
     on-at =
@@ -195,7 +200,7 @@ module _ {n : ℕ} {t : List ℕ} {b v a : ℕ} {o out : List ℕ} {w e c : ℕ}
 
     -- one group more is written
     more : Listed room (W .gs ++ (off ∷ [])) o (c + 1) (set out c off)
-    more = listed-more off (omega (arith, walked-lt)) (omega (arith, walked-lt)) (W .listed)
+    more = listed-more off (omega (arith, walked-few)) (omega (arith, walked-few)) (W .listed)
 
     -- with what is left of the way
     all : (r : List ℕ) → off ∷ r ≡ walk n t b (suc (nodes n - (c + 1))) w e
@@ -212,7 +217,7 @@ module _ {n : ℕ} {t : List ℕ} {b v a : ℕ} {o out : List ℕ} {w e c : ℕ}
       be = λ x. d (sym x);
       for-groups = W .for-groups;
       ahead = rw hw (sym (leads-beyond (at-end on-at) (W .b-lt) (λ x. d (sym x))) ∙ T .on-leads);
-      fuel = rw hw (omega (arith, W .fuel, T .on-branch .fall));
+      fuel = rw hw (omega (arith, W .fuel, taxa-less T));
       gs = W .gs ++ (off ∷ []);
       listed = more;
       rest = all (walk n t b (nodes n - (c + 1)) w′ on)
@@ -229,4 +234,4 @@ module _ {n : ℕ} {t : List ℕ} {b v a : ℕ} {o out : List ℕ} {w e c : ℕ}
         (all (x ∷ []) (ap₂ (λ (y z : ℕ). y ∷ z ∷ []) k hx
         ∙ sym (walk-last n t b (nodes n - (c + 1)) w e
         (eq-eqb (onward n t b w e) b (sym h ∙ d)))))
-        (listed-more x (omega (arith, walked-lt)) (omega (arith, walked-lt)) more)
+        (listed-more x (omega (arith, walked-few)) (omega (arith, walked-few)) more)

@@ -1,6 +1,6 @@
 -- What only stands between the functions: one step of a way, and the groups
 -- on it.
-use Prim.Native.Nat.{ℕ, _*_, _≤_, _<_}
+use Prim.Native.Nat.{ℕ, _≤_, _<_}
 use mathlib.Core.Path.{_≡_}
 use mathlib.Core.List.{List}
 use lib.ListN.{length}
@@ -12,9 +12,9 @@ use Rattle.moves.specs.Groups.{beyond, onward, aside}
 use Rattle.moves.specs.Between.{SideRight}
 use Rattle.moves.specs.declared.Side.{Side}
 
--- how many groups a lent list has room for
+-- how many groups a lent list has room for: each has a taxon of its own
 abbrev pub room : ℕ
-room = 2 * most
+room = most
 
 -- at node v, come by row e: on leads on to b, and off is the taxa beyond the
 -- other

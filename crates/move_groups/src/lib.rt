@@ -11,8 +11,8 @@ ghost use Rattle.moves.specs.Between.{sideGroups};
 ghost use Rattle.move_groups.specs.Between.{room, Paced, Asked, Listed};
 use moves::Side;
 
-// How many groups a lent list has room for.
-pub const ROOM: usize = 128;
+// How many groups a lent list has room for: each has a taxon of its own.
+pub const ROOM: usize = taxa::MOST;
 
 // A step of a way: the row that leads on, and the taxa beyond the other.
 struct Step {

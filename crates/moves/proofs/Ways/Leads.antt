@@ -15,6 +15,7 @@ use Rattle.taxa.specs.Sets.{pick, has, some, size, Sub}
 use Rattle.taxa.proofs.Bools.{Either, either, not-both, not-self, and-left, and-right, and-both}
 use Rattle.taxa.proofs.Bools.{and-false-r, or-cases, or-left, or-right, or-neither}
 use Rattle.taxa.proofs.Sets.{has-and, has-below, some-has, some-zero, sub-and, none-zero}
+use Rattle.taxa.proofs.Sizes.{size-less, size-pos}
 use Rattle.tree.specs.Tree.{lo, hi, rows, nodes, far, part}
 use Rattle.tree.specs.Splits.{side}
 use Rattle.tree.proofs.Rounds.{part-start}
@@ -22,12 +23,12 @@ use Rattle.tree.proofs.Joins.{Joins, flat-join, lo-touch, hi-touch}
 use Rattle.tree.proofs.Colourings.{Hangs, valid-table, row-parts, part-parts}
 use Rattle.tree.proofs.Colourings.{two-sides, empty-corner}
 use Rattle.tree.proofs.RowCounts.{Pair}
-use Rattle.tree.proofs.Forks.{Fork, fork, hang-f, hang-g, node-side}
+use Rattle.tree.proofs.Forks.{Fork, fork, fork-swap, hang-f, hang-g, node-side}
 use Rattle.tree.proofs.Ends.{EndOf, Branch, end-joins, far-end, end-pair}
 use Rattle.tree.proofs.Ends.{first-branch, second-branch, row-one}
 use Rattle.tree.proofs.SplitLaws.{side-has}
 use Rattle.moves.specs.Groups.{beyond, leads, onward, aside}
-use Rattle.moves.proofs.Rows.Ends.{out-lo}
+use Rattle.moves.proofs.Rows.Ends.{Apart, out-lo}
 use Rattle.moves.proofs.Ways.Walk.{no-common}
 use Rattle.moves.proofs.Ways.Found.{beyond-taxa, on-is, off-is}
 
@@ -46,16 +47,22 @@ module _ {n : ℕ} {t : List ℕ} {e v f g : ℕ} (a : EndOf n t e v) (inner : n
   low : lo t b < nodes n
   low = valid-table (a .valid) .ends b lb .0
 
+  hF : Hangs n t f v F
+  hF = hang-f (a .valid) (a .row) (a .touch) inner K
+
+  hG : Hangs n t g v G
+  hG = hang-g (a .valid) (a .row) (a .touch) inner K
+
+  f-apart-g : Apart n F G
+  f-apart-g = no-common k hF hG (a .valid)
+
+  g-apart-f : Apart n G F
+  g-apart-f = no-common (fork-swap k) hG hF (a .valid)
+
   not-both-lead : leads n t b v f ≡ true → leads n t b v g ≡ false
   unfolding leads
   not-both-lead h = go (or-cases (eqb f b) (has F (lo t b)) h)
     where
-      hF : Hangs n t f v F
-      hF = hang-f (a .valid) (a .row) (a .touch) inner K
-
-      hG : Hangs n t g v G
-      hG = hang-g (a .valid) (a .row) (a .touch) inner K
-
       f-out : has G (lo t f) ≡ false
       f-out =
           out-lo t f v (far t f v) G (k .x-row) (hG .out) (hG .parts .closed f (K .f-lt) (k .xf))
@@ -73,7 +80,7 @@ module _ {n : ℕ} {t : List ℕ} {e v f g : ℕ} (a : EndOf n t e v) (inner : n
       go (inr w) =
           let gb : g ≡ b → ⊥
           = λ x. not-both (has F (lo t b)) w (ap (λ (y : ℕ). has F (lo t y)) (sym x) ∙ g-out) in
-          ap₂ _||_ (ne-eqb g b gb) (no-common k hF hG (a .valid) (lo t b) low w)
+          ap₂ _||_ (ne-eqb g b gb) (f-apart-g (lo t b) low w)
 
   one-leads : (b ≡ e → ⊥)
       → has (part n t e v) (lo t b) ≡ true
@@ -104,6 +111,7 @@ module _ {n : ℕ} {t : List ℕ} {e v f g : ℕ} (a : EndOf n t e v) (inner : n
 pub record Turn (n : ℕ) (t : List ℕ) (b e v on off : ℕ) : Type 0 where
   pub on-branch : Branch n t e v on
   pub off-branch : Branch n t e v off
+  pub off-apart : Apart n (part n t off (far t off v)) (part n t on (far t on v))
   pub on-leads : leads n t b v on ≡ true
   pub off-not : leads n t b v off ≡ false
 
@@ -125,6 +133,7 @@ turn {n} {t} {b} {e} {v} a inner lb be p = go (leads n t b v f) refl
         record {
           on-branch = first-branch a inner (w .2);
           off-branch = second-branch a inner (w .2);
+          off-apart = g-apart-f a inner (w .2) lb;
           on-leads = h;
           off-not = not-both-lead a inner (w .2) lb h;
         }
@@ -132,6 +141,7 @@ turn {n} {t} {b} {e} {v} a inner lb be p = go (leads n t b v f) refl
         record {
           on-branch = second-branch a inner (w .2);
           off-branch = first-branch a inner (w .2);
+          off-apart = f-apart-g a inner (w .2) lb;
           on-leads = one-leads a inner (w .2) lb be p h;
           off-not = h;
         }
@@ -145,6 +155,9 @@ record Taxon (n : ℕ) (t : List ℕ) (e v : ℕ) : Type 0 where
   i : ℕ
   lt : i < n
   within : has (part n t e v) i ≡ true
+
+taxon-node : {n : ℕ} {t : List ℕ} {e v i : ℕ} → EndOf n t e v → i < n → i < nodes n
+taxon-node a l = omega (arith, a .valid .big)
 
 taxon-in : (j : ℕ) {n : ℕ} {t : List ℕ} {e v : ℕ}
     → EndOf n t e v
@@ -161,12 +174,28 @@ taxon-in (suc j) {n} {t} {e} {v} a h = go (λ r w b l. taxon-in j b l) (either (
         let p = end-pair a inner in
         let r = first-branch a inner (p .2) in
         let x = ih (p .0) (far t (p .0) v) (far-end (r .at)) (omega (arith, r .fall)) in
-        let node : x .i < nodes n = omega (arith, x .lt, a .valid .big) in
-        record { i = x .i; lt = x .lt; within = r .within (x .i) node (x .within) }
+        let l = taxon-node a (x .lt) in
+        record { i = x .i; lt = x .lt; within = r .within (x .i) l (x .within) }
 
 some-taxon : {n : ℕ} {t : List ℕ} {e v : ℕ} → EndOf n t e v → Taxon n t e v
 some-taxon {n} {t} {e} {v} a =
     let j = suc (size (nodes n) (part n t e v)) in taxon-in j a (le-refl j)
+
+pub taxa-pos : {n : ℕ} {t : List ℕ} {e v : ℕ} → EndOf n t e v → 0 < size n (part n t e v)
+taxa-pos {n} {t} {e} {v} a =
+    let x = some-taxon a in size-pos n (part n t e v) (x .i) (x .lt) (x .within)
+
+-- a turn leaves taxa behind: those beyond the row that does not lead on
+pub taxa-less : {n : ℕ} {t : List ℕ} {b e v on off : ℕ}
+    → Turn n t b e v on off
+    → size n (part n t on (far t on v)) < size n (part n t e v)
+taxa-less {n} {t} {e = e} {v = v} {on = on} T =
+    let off = T .off-branch in
+    let x = some-taxon (far-end (off .at)) in
+    let l = taxon-node (off .at) (x .lt) in
+    size-less n (part n t on (far t on v)) (part n t e v) (x .i)
+    (λ j m. T .on-branch .within j (taxon-node (off .at) m)) (x .lt)
+    (T .off-apart (x .i) l (x .within)) (off .within (x .i) l (x .within))
 
 -- ---- what rows e and b say of a node: each of the two lies on one side of the
 -- other
@@ -228,9 +257,6 @@ record On (n : ℕ) (t : List ℕ) (b e v : ℕ) (d : Bool) : Type 0 where
 
 module _ {n : ℕ} {t : List ℕ} {e v : ℕ} (a : EndOf n t e v) {b : ℕ} (lb : b < rows n)
     (be : b ≡ e → ⊥) (p : has (part n t e v) (lo t b) ≡ true) where
-  node : {i : ℕ} → i < n → i < nodes n
-  node l = omega (arith, l, a .valid .big)
-
   -- on v's side: one beyond the row that does not lead to b
   near-taxon : On n t b e v (has (part n t b (lo t b)) v)
   unfolding leads
@@ -241,7 +267,7 @@ module _ {n : ℕ} {t : List ℕ} {e v : ℕ} (a : EndOf n t e v) {b : ℕ} (lb 
       let no = or-neither (eqb h b) (has (part n t h (far t h v)) (lo t b)) (T .off-not) in
       let bh : b ≡ h → ⊥ = λ d. eqb-false h b (no .0) (sym d) in
       let x = some-taxon (far-end (r .at)) in
-      let l = node (x .lt) in
+      let l = taxon-node a (x .lt) in
       let on-side = one-side (far-end (r .at)) lb bh (x .i) l (x .within ∙ sym (ap not (no .1))) in
       record {
         i = x .i;
@@ -261,14 +287,14 @@ module _ {n : ℕ} {t : List ℕ} {e v : ℕ} (a : EndOf n t e v) {b : ℕ} (lb 
           → has (part n t e v) i ≡ true
       lies c i h l q =
           same (has (part n t e v) i) true (λ w.
-          not-self c (sym h ∙ sym (one-side a lb be i (node l) (w ∙ sym (ap not p))) ∙ q))
+          not-self c (sym h ∙ sym (one-side a lb be i (taxon-node a l) (w ∙ sym (ap not p))) ∙ q))
 
       go : (c : Bool) → has (part n t b (lo t b)) v ≡ c → On n t b e v (not c)
       go true h =
           let x = some-taxon (record { valid = a .valid; row = lb; touch = hi-touch t b }) in
           let sides = two-sides b (hi t b) (lo t b) (a .valid) lb (inr (refl, refl)) in
           let q : has (part n t b (lo t b)) (x .i) ≡ false
-          = sides (x .i) (node (x .lt)) ∙ ap not (x .within) in
+          = sides (x .i) (taxon-node a (x .lt)) ∙ ap not (x .within) in
           record { i = x .i; lt = x .lt; with-v = lies true (x .i) h (x .lt) q; side = q }
       go false h =
           let x = some-taxon (record { valid = a .valid; row = lb; touch = lo-touch t b }) in
@@ -343,7 +369,7 @@ module _ {n : ℕ} {t : List ℕ} {x v : ℕ} (a : EndOf n t x v) {b : ℕ} (lb 
       parts-no X S (has (part n t b (lo t b)) (far t x v)) (λ i h.
       let l = beyond-low n t v x i h in
       let out = sym (beyond-taxa n t v x i l) ∙ h ∙ sym (ap not p) in
-      side-has n t b i l ∙ one-side (far-end a) lb bx i (omega (arith, l, a .valid .big)) out)
+      side-has n t b i l ∙ one-side (far-end a) lb bx i (taxon-node a l) out)
 
   -- another row x leads to b where b lies beyond it, and there b's side parts
   -- the taxa beyond x
