@@ -3,7 +3,7 @@ use mathlib.Core.Path.{_≡_, refl, sym, ap, ap₂, _∙_, subst}
 use mathlib.Core.Logic.{_⊎_, inl, inr}
 use mathlib.Core.Bool.{Bool, true, false, true≢false, _&&_}
 use mathlib.Core.List.{List, _∷_, _++_}
-use Prim.Native.Nat.{ℕ, suc, _+_, _*_, _≤_, _<_}
+use Prim.Native.Nat.{ℕ, suc, _+_, _≤_, _<_}
 use native.Mathlib.Numerals.{add-one}
 use native.Mathlib.Omega.{arith}
 use lib.Dec.{ltb}
@@ -19,8 +19,7 @@ use Rattle.lines.specs.Lines.{decimal}
 use Rattle.newick_labels.specs.Between.{Missed}
 use Rattle.newick_grammar.specs.Newick.{taxon, group, NoTree, opens, comma}
 use Rattle.newick_grammar.specs.Numbers.{groups, node, join, withRows}
-use Rattle.newick_grammar.proofs.Writes.{length-join}
-use Rattle.newick_grammar.proofs.Valid.{node-lt, length-rows}
+use Rattle.newick_grammar.proofs.Valid.{node-lt}
 use Rattle.newick_members.specs.declared.Cursor.{Cursor}
 use Rattle.newick_members.specs.declared.Got.{Got}
 use Rattle.newick_members.specs.declared.Got.the-variants as got
@@ -31,19 +30,6 @@ use Rattle.newick_members.proofs.Places.{here-in, here-is}
 use Rattle.newick_members.proofs.SlotLaws.{no-more, too-deep, bad-label, past-taxon}
 use Rattle.newick_members.proofs.SlotLaws.{left-slot, no-comma, right-slot, no-close}
 use Rattle.newick_members.proofs.SlotLaws.{past-group}
-
--- ---- the end of a group: its two rows
-module _ {s t : List ℕ} {c : Cursor} {x y : ℕ} (C : Closes s t c x y) where
-  pub row-first : (2 * x + 1 < length t) × (x < 256) × (c .next < 256)
-  row-first = (C .first, C .small .0, C .small .2)
-
-  pub row-second : {u : List ℕ} → u ≡ join x (c .next) t
-      → (2 * y + 1 < length u) × (y < 256) × (c .next < 256)
-  row-second e = (
-    omega (arith, C .second, ap length e ∙ length-join t x (c .next)),
-    C .small .1,
-    C .small .2,
-  )
 
 -- ---- the taxa that may stand alone
 module _ {n : ℕ} (u : ℕ) (few : n ≤ most) (w : Within n u) where
@@ -87,12 +73,12 @@ label-none {s} {at} u o few h k = record {
         omega (arith, e, ap length (take-all at s h))
 
 -- ---- a member
-module _ {n : ℕ} {s t : List ℕ} {c : Cursor} {m : ℕ} {o : Bool} (R : Ready n s t c m o) where
+module _ {n : ℕ} {s : List ℕ} {c : Cursor} {m : ℕ} {o : Bool} (R : Ready n s c m o) where
   -- a label
-  pub got-taxon : here s (c .at) opens ≡ false → (r : Got) → TakenIs n s c o r
+  pub got-taxon : here s (c .at) opens ≡ false → (t : List ℕ) (r : Got) → TakenIs n s c o r
       → GotIs n s c m o t t r
   unfolding withRows node groups mark
-  got-taxon e (got.Bad p) M = go (ltb (c .at) (length s)) refl
+  got-taxon e t (got.Bad p) M = go (ltb (c .at) (length s)) refl
     where
       not-open : c .at < length s → getD s (c .at) 0 ≡ opens → ⊥
       not-open h q = true≢false
@@ -106,7 +92,7 @@ module _ {n : ℕ} {s t : List ℕ} {c : Cursor} {m : ℕ} {o : Bool} (R : Ready
           let q : c .at ≡ p = omega (arith, h, M .after, M .inside) in
           subst (NoTree n s) q
           (no-more (R .few) (R .slot) h)
-  got-taxon e (got.Node d v) T = record {
+  got-taxon e t (got.Node d v) T = record {
     member = taxon v;
     past = past-taxon (R .few) (R .slot) (T .found);
     next = omega (arith, T .next);
@@ -128,7 +114,7 @@ module _ {n : ℕ} {s t : List ℕ} {c : Cursor} {m : ℕ} {o : Bool} (R : Ready
       room : size n (c .used) + m + 2 ≤ n
       room = omega (arith, deep, count-is)
 
-      pub left-ready : Ready n s t (ahead c) (m + 1) true
+      pub left-ready : Ready n s (ahead c) (m + 1) true
       left-ready = record {
         big = R .big;
         few = R .few;
@@ -137,13 +123,12 @@ module _ {n : ℕ} {s t : List ℕ} {c : Cursor} {m : ℕ} {o : Bool} (R : Ready
             (left-slot (R .few) (R .slot) h₀ room);
         from = R .from;
         numbers = omega (arith, R .numbers);
-        len = R .len;
       }
 
 -- a group begins at c, and its first member is read up to d
 pub record LeftRead (n : ℕ) (s t : List ℕ) (c : Cursor) (m : ℕ) (o : Bool) (t₁ : List ℕ)
     (d : Cursor) (x : ℕ) : Type 0 where
-  pub ready : Ready n s t c m o
+  pub ready : Ready n s c m o
   pub opened : here s (c .at) opens ≡ true
   pub left : Read n s (ahead c) (m + 1) true t t₁ d x
 
@@ -169,7 +154,7 @@ module _ {n : ℕ} {s t : List ℕ} {c : Cursor} {m : ℕ} {o : Bool} {t₁ : Li
   left-size : size n (d .used) ≡ size n (c .used) + suc (groups (H .left .member))
   left-size = ap (size n) (H .left .used) ∙ mark-size (past-left .fits)
 
-  pub right-ready : here s (d .at) comma ≡ true → Ready n s t₁ (ahead d) m o
+  pub right-ready : here s (d .at) comma ≡ true → Ready n s (ahead d) m o
   right-ready k =
       let R = H .ready in
       let L = H .left in
@@ -180,12 +165,11 @@ module _ {n : ℕ} {s t : List ℕ} {c : Cursor} {m : ℕ} {o : Bool} {t₁ : Li
             (right-slot (R .few) (R .slot) (H .opened) past-left k);
         from = omega (arith, R .from, L .next);
         numbers = omega (arith, R .numbers, L .next, left-size);
-        len = ap length (L .written) ∙ length-rows (L .member) (c .next) t ∙ R .len;
       }
 
 module _ {n : ℕ} {s t : List ℕ} {c : Cursor} {m : ℕ} {o : Bool} {t₂ : List ℕ} {f : Cursor}
     {x y : ℕ} (B : BothRead n s t c m o t₂ f x y) where
-  abbrev R : Ready n s t c m o
+  abbrev R : Ready n s c m o
   R = B .half .ready
 
   abbrev L : Read n s (ahead c) (m + 1) true t (B .table) (B .between) x
@@ -229,21 +213,12 @@ module _ {n : ℕ} {s t : List ℕ} {c : Cursor} {m : ℕ} {o : Bool} {t₂ : Li
         (omega (arith, R .from, L .next)),
   )
 
-  length-right : length t₂ ≡ 2 * rows n
-  length-right = ap length (Q .written)
-      ∙ length-rows (Q .member) (B .between .next) (B .table)
-      ∙ right-ready (B .half) (B .parted) .len
-
-  pub to-close : Closes s t₂ f x y
+  pub to-close : Closes s f x y
   to-close = record {
     inside = Q .past .inside;
-    first = omega (arith, left-node, parent-node, length-right);
-    second = omega (arith, right-node, parent-node, length-right);
-    small = (
-      omega (arith, left-node, parent-node, R .few),
-      omega (arith, right-node, parent-node, R .few),
-      omega (arith, parent-node, R .few),
-    );
+    first = omega (arith, left-node, parent-node, R .few);
+    second = omega (arith, right-node, parent-node, R .few);
+    last = omega (arith, parent-node, R .few);
   }
 
   pub got-group : (t₃ : List ℕ) (r : Got) → ClosedIs s f x y t₂ t₃ r → GotIs n s c m o t t₃ r

@@ -1,6 +1,6 @@
 -- What only stands between the functions. A slot is a place in a text at which
 -- a member must stand. What was read up to there tells which members may.
-use Prim.Native.Nat.{ℕ, suc, _+_, _*_, _≤_, _<_}
+use Prim.Native.Nat.{ℕ, suc, _+_, _≤_, _<_}
 use mathlib.Core.Path.{_≡_}
 use mathlib.Core.Bool.{Bool, true, false, _&&_, _||_}
 use mathlib.Core.List.{List, [], _∷_, _++_}
@@ -104,13 +104,12 @@ TakenIs n s c o (got.Bad p) = Missed s (c .at) (allowed n (c .used) o) p
 
 -- A slot is at c. Fewer groups have closed than taxa are read or must follow,
 -- so no node number is past the last.
-pub record Ready (n : ℕ) (s t : List ℕ) (c : Cursor) (m : ℕ) (o : Bool) : Type 0 where
+pub record Ready (n : ℕ) (s : List ℕ) (c : Cursor) (m : ℕ) (o : Bool) : Type 0 where
   pub big : 4 ≤ n
   pub few : n ≤ most
   pub slot : Slot n s (c .at) (c .used) m o
   pub from : n ≤ c .next
   pub numbers : suc (c .next) ≤ n + (size n (c .used) + m)
-  pub len : length t ≡ 2 * rows n
 
 -- a member stands at c, d is where it ends, v its node, and its rows are in
 -- the table
@@ -127,12 +126,12 @@ abbrev pub GotIs : ℕ → List ℕ → Cursor → ℕ → Bool → List ℕ →
 GotIs n s c m o t t′ (got.Node d v) = Read n s c m o t t′ d v
 GotIs n s c m o t t′ (got.Bad p) = NoTree n s p
 
--- the rows of x and y, whose parent has the next number, are in the table
-pub record Closes (s t : List ℕ) (c : Cursor) (x y : ℕ) : Type 0 where
+-- x and y, whose parent has the next number, have rows
+pub record Closes (s : List ℕ) (c : Cursor) (x y : ℕ) : Type 0 where
   pub inside : c .at ≤ length s
-  pub first : 2 * x + 1 < length t
-  pub second : 2 * y + 1 < length t
-  pub small : (x < 256) × (y < 256) × (c .next < 256)
+  pub first : x < rows most
+  pub second : y < rows most
+  pub last : c .next ≤ rows most
 
 -- a parenthesis closes their group, and the two rows are written; or none does
 pub record Closed (s : List ℕ) (c : Cursor) (x y : ℕ) (t t′ : List ℕ) (d : Cursor) (v : ℕ) : Type

@@ -1,15 +1,18 @@
 // The members of a tree's Newick text: a label or a group, its rows written
 // into the table; or the first byte at which no continuation is a tree.
-ghost use Prim.Native.Nat.{_+_, _*_, _^_, _<_, _≤_};
+ghost use Prim.Native.Nat.{_+_, _^_, _<_, _≤_};
 ghost use mathlib.Core.Path.{_≡_};
 ghost use lib.ListN.{length};
 ghost use Rattle.taxa.specs.Most.{most};
-ghost use Rattle.table.specs.Between.{HasRow};
+ghost use Rattle.tree.specs.Tree.{rows};
 ghost use Rattle.newick_grammar.specs.Numbers as numbers;
 ghost use Rattle.newick_members.specs.Between as between;
 ghost use Rattle.newick_members.specs.Between.{Within, allowed, here};
 ghost use Rattle.newick_members.specs.Between.{TakenIs, Closes, ClosedIs, Ready, GotIs};
 use newick_labels::Label;
+
+// The bytes of the longest table.
+pub const TABLE: usize = 250;
 
 // Where the reader is: the place in the text, the number of the next group to
 // close, and the taxa read.
@@ -88,8 +91,8 @@ fn taxon_at(s: &[u8], n: usize, c: Cursor, more: bool) -> Got
 }
 
 // Row v joins node v to node p.
-pub fn join(table: &mut [u8], v: usize, p: usize)
-    requires { ⌜ (HasRow (now table) v) × (v < 256) × (p < 256) ⌝ }
+pub fn join(table: &mut [u8; TABLE], v: usize, p: usize)
+    requires { ⌜ (v < rows most) × (p < 256) ⌝ }
     ensures { λ _. ⌜ now (table .exit) ≡ numbers.join v p (now (table .entry)) ⌝ }
 {
     table[2 * v] = v as u8;
@@ -98,8 +101,8 @@ pub fn join(table: &mut [u8], v: usize, p: usize)
 
 // The end of a group whose members are the nodes x and y: its node has the
 // next number, and their rows are written.
-fn close(s: &[u8], c: Cursor, x: usize, y: usize, table: &mut [u8]) -> Got
-    requires { ⌜ Closes (now s) (now table) c x y ⌝ }
+fn close(s: &[u8], c: Cursor, x: usize, y: usize, table: &mut [u8; TABLE]) -> Got
+    requires { ⌜ Closes (now s) c x y ⌝ }
     ensures { λ r. ⌜ ClosedIs (now (s .entry)) c x y (now (table .entry)) (now (table .exit)) r ⌝ }
 {
     let at = c.at;
@@ -119,31 +122,56 @@ fn close(s: &[u8], c: Cursor, x: usize, y: usize, table: &mut [u8]) -> Got
     )
 }
 
-// The member at a slot, its rows written into the table. At least `least`
-// members must follow it, and others may where `more` says so.
-pub fn member(s: &[u8], n: usize, c: Cursor, least: usize, more: bool, table: &mut [u8]) -> Got
-    requires { ⌜ Ready n (now s) (now table) c least more ⌝ }
-    ensures { λ r. ⌜ GotIs n (now (s .entry)) c least more (now (table .entry)) (now (table .exit)) r ⌝ }
+// The member at a slot, as `member` reads it. It calls itself for each group.
+// Little of a call stands on the stack: each reference is one word, and both
+// answers have one place.
+fn read_member(
+    s: &&[u8],
+    n: usize,
+    c: Cursor,
+    least: usize,
+    more: bool,
+    table: &mut [u8; TABLE],
+) -> Got
+    requires { ⌜ (length (now (now s)) < 2 ^ 64) × Ready n (now (now s)) c least more ⌝ }
+    ensures { λ r.
+        ⌜ GotIs n (now (now (s .entry))) c least more (now (table .entry)) (now (table .exit)) r ⌝ }
 {
     let at = c.at;
-    if !is_at(s, at, b'(') {
-        return taxon_at(s, n, c, more);
+    if !is_at(*s, at, b'(') {
+        return taxon_at(*s, n, c, more);
     }
     // both of its members need a taxon
     if n < taxa::size(c.used) + least + 2 {
         return Got::Bad(at);
     }
-    let first = member(s, n, ahead(c), least + 1, true, table);
-    let Got::Node(c1, x) = first else {
-        return first;
+    let mut got = read_member(s, n, ahead(c), least + 1, true, table);
+    let Got::Node(c1, x) = got else {
+        return got;
     };
     let at1 = c1.at;
-    if !is_at(s, at1, b',') {
+    if !is_at(*s, at1, b',') {
         return Got::Bad(at1);
     }
-    let second = member(s, n, ahead(c1), least, more, table);
-    let Got::Node(c2, y) = second else {
-        return second;
+    got = read_member(s, n, ahead(c1), least, more, table);
+    let Got::Node(c2, y) = got else {
+        return got;
     };
-    close(s, c2, x, y, table)
+    close(*s, c2, x, y, table)
+}
+
+// The member at a slot, its rows written into the table. At least `least`
+// members must follow it, and others may where `more` says so.
+pub fn member(
+    s: &[u8],
+    n: usize,
+    c: Cursor,
+    least: usize,
+    more: bool,
+    table: &mut [u8; TABLE],
+) -> Got
+    requires { ⌜ Ready n (now s) c least more ⌝ }
+    ensures { λ r. ⌜ GotIs n (now (s .entry)) c least more (now (table .entry)) (now (table .exit)) r ⌝ }
+{
+    read_member(&s, n, c, least, more, table)
 }

@@ -1,2 +1,3 @@
 pub mod OuterLaws
+pub mod Starts
 pub mod WholeLaws

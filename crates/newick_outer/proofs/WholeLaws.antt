@@ -7,7 +7,7 @@ use mathlib.Core.List.{List}
 use Prim.Native.Nat.{ℕ, _+_, _*_, _≤_, _<_}
 use native.Mathlib.Omega.{arith}
 use lib.Arith.{lt-of-le-ne}
-use lib.ListN.{length}
+use lib.ListN.{take}
 use borrow.Author.Tests.{lt-ltb, le-ltb}
 use Rattle.taxa.specs.Most.{most}
 use Rattle.taxa.specs.Sets.{size}
@@ -16,8 +16,7 @@ use Rattle.tree.specs.Tree.{rows}
 use Rattle.newick_grammar.specs.Newick.{Outermost, NoTree, opens, comma, closes}
 use Rattle.newick_grammar.specs.Numbers.{groups, node, join, withRows, blank, smaller, larger}
 use Rattle.newick_grammar.specs.Numbers.{table}
-use Rattle.newick_grammar.proofs.Writes.{length-join, blank-length}
-use Rattle.newick_grammar.proofs.Valid.{node-lt, length-rows, last-larger}
+use Rattle.newick_grammar.proofs.Valid.{node-lt, last-larger}
 use Rattle.newick_members.specs.declared.Cursor.{Cursor}
 use Rattle.newick_outer.specs.declared.Parsed.{Parsed}
 use Rattle.newick_outer.specs.declared.Parsed.the-variants as parsed
@@ -29,27 +28,27 @@ use Rattle.newick_outer.proofs.OuterLaws.{no-two-close, two-closing, no
 use Rattle.newick_outer.proofs.OuterLaws.{third-slot, no-three-close, three-closing}
 use Rattle.newick_outer.proofs.OuterLaws.{no-semicolon, more-after, whole-text}
 use Rattle.newick_members.proofs.StageLaws.{size-is}
+use Rattle.newick_outer.proofs.Starts.{take-join, take-rows, take-blank}
 
 -- ---- the end of the text
-end-parsed : {n : ℕ} {s : List ℕ} {p : ℕ} {o : Outermost} → Closing n s p o → {t : List ℕ}
-    → t ≡ table n o → (r : Parsed) → EndIs s p r → ParsedIs n s t r
-end-parsed {o = o} C e parsed.Whole (h, l) = (o, whole-text C h l, e)
-end-parsed {n} {s} C e (parsed.Bad q) (inl (i, h)) = subst (NoTree n s) (sym i) (no-semicolon C h)
-end-parsed {n} {s} C e (parsed.Bad q) (inr (i, h, l)) =
+end-parsed : {n : ℕ} {s : List ℕ} {p : ℕ} {o : Outermost} → Closing n s p o → (t : List ℕ)
+    → take (2 * rows n) t ≡ table n o → (r : Parsed) → EndIs s p r → ParsedIs n s t r
+end-parsed {o = o} C t e parsed.Whole (h, l) = (o, whole-text C h l, e)
+end-parsed {n} {s} C t e (parsed.Bad q) (inl (i, h)) = subst (NoTree n s) (sym i) (no-semicolon C h)
+end-parsed {n} {s} C t e (parsed.Bad q) (inr (i, h, l)) =
     subst (NoTree n s) (sym i) (more-after C h l)
 
 module _ {n : ℕ} {s : List ℕ} where
   -- ---- the first member
-  module _ {t : List ℕ} (p : (4 ≤ n) × (n ≤ most) × (t ≡ blank n))
+  module _ {t : List ℕ} (p : (4 ≤ n) × (n ≤ most) × (t ≡ blank most))
       (h : here s 0 opens ≡ true) where
-    pub first-ready : Ready n s t (record { at = 1; next = n; used = 0 }) 1 true
+    pub first-ready : Ready n s (record { at = 1; next = n; used = 0 }) 1 true
     first-ready = record {
       big = p .0;
       few = p .1;
       slot = first-slot (p .1) s h (p .0);
       from = omega arith;
       numbers = omega (arith, size-none n);
-      len = ap length (p .2) ∙ blank-length n;
     }
 
     pub one-read : {t₁ : List ℕ} {c : Cursor} {x : ℕ}
@@ -72,7 +71,7 @@ module _ {n : ℕ} {s : List ℕ} where
     no-second e = no-first-comma (O .few) s (O .opened) (O .past) e
 
     module _ (k : here s (c .at) comma ≡ true) where
-      pub second-ready : Ready n s t (ahead c) 0 true
+      pub second-ready : Ready n s (ahead c) 0 true
       second-ready = record {
         big = O .big;
         few = O .few;
@@ -84,8 +83,6 @@ module _ {n : ℕ} {s : List ℕ} where
           O .next,
           ap (size n) (O .used) ∙ mark-size (O .past .fits),
         );
-        len = ap length (O .written) ∙ length-rows (O .first) n (blank n)
-            ∙ blank-length n;
       }
 
       pub two-read : {t₁ : List ℕ} {d : Cursor} {y : ℕ}
@@ -122,11 +119,6 @@ module _ {n : ℕ} {s : List ℕ} where
       mark-size (T .past-first .fits),
       size-none n,
     )
-
-    two-length : length t ≡ 2 * rows n
-    two-length = ap length (T .written)
-        ∙ length-rows (T .second) (n + groups (T .first)) _
-        ∙ length-rows (T .first) n (blank n) ∙ blank-length n
 
     x-low : x < n + groups (T .first)
     x-low = omega (
@@ -171,9 +163,9 @@ module _ {n : ℕ} {s : List ℕ} where
           go (inl (l, e)) = rw (lt-ltb x y l) (omega (arith, l, e))
           go (inr (l, e)) = rw (le-ltb x y (omega (arith, l))) (omega (arith, l, e))
 
-      pub join-room : (2 * smaller x y + 1 < length t) × (x < 256) × (y < 256)
+      pub join-room : (smaller x y < rows most) × (x < 256) × (y < 256)
       join-room = (
-        omega (arith, smaller-low, two-length),
+        omega (arith, smaller-low, T .few),
         omega (arith, x-low, size-both, counted, all, T .few),
         omega (arith, y-low, T .next, size-both, counted, all, T .few),
       )
@@ -182,10 +174,19 @@ module _ {n : ℕ} {s : List ℕ} where
           → u ≡ join (smaller x y) (larger x y) t → (r : Parsed)
           → EndIs s (c .at + 1) r → ParsedIs n s u r
       unfolding table
-      two-parsed e q =
+      two-parsed e {u} q =
           end-parsed
           (two-closing (T .few) s (T .opened) (T .past-first) (T .parted) (T .past) none e)
-          (q ∙ rw (T .written, T .named, T .named-first))
+          u (rw (
+            q,
+            T .written,
+            T .named,
+            T .named-first,
+            take-join,
+            take-rows,
+            take-rows,
+            take-blank (T .few),
+          ))
 
     -- ---- three members
     module _ (left : size n (c .used) < n) where
@@ -196,7 +197,7 @@ module _ {n : ℕ} {s : List ℕ} where
       no-third e =
           no-second-comma (T .few) s (T .opened) (T .past-first) (T .parted) (T .past) some e
 
-      pub third-ready : here s (c .at) comma ≡ true → Ready n s t (ahead c) 0 false
+      pub third-ready : here s (c .at) comma ≡ true → Ready n s (ahead c) 0 false
       third-ready k = record {
         big = T .big;
         few = T .few;
@@ -205,7 +206,6 @@ module _ {n : ℕ} {s : List ℕ} where
             (third-slot (T .few) s (T .opened) (T .past-first) (T .parted) (T .past) some k);
         from = omega (arith, T .next);
         numbers = omega (arith, T .next, size-both);
-        len = two-length;
       }
 
 -- the third member is read, the first two up to a comma
@@ -240,10 +240,6 @@ module _ {n : ℕ} {s t : List ℕ} {c : Cursor} {x y z : ℕ} (H : Three n s t 
     H .third .past .fits .full refl,
   )
 
-  third-length : length t ≡ 2 * rows n
-  third-length = ap length (H .third .written)
-      ∙ length-rows (H .third .member) (H .between .next) (H .table) ∙ two-length (H .both)
-
   z-low : z < c .next
   z-low = omega (
     arith,
@@ -254,47 +250,44 @@ module _ {n : ℕ} {s t : List ℕ} {c : Cursor} {x y z : ℕ} (H : Three n s t 
   )
 
   -- each of the three rows has its place in the table
-  fits-row : (w : List ℕ) (v : ℕ) → length w ≡ 2 * rows n → v < c .next
-      → (2 * v + 1 < length w) × (v < 256) × (c .next < 256)
-  fits-row w v l h = (
-    omega (arith, l, h, last-node),
-    omega (arith, h, last-node, H .both .few),
-    omega (arith, last-node, H .both .few),
-  )
+  fits-row : {v : ℕ} → v < c .next → (v < rows most) × (c .next < 256)
+  fits-row h = (omega (arith, h, last-node, H .both .few), omega (arith, last-node, H .both .few))
 
-  pub x-room : (2 * x + 1 < length t) × (x < 256) × (c .next < 256)
-  x-room = fits-row t x third-length
-      (omega (arith, x-low (H .both), H .third .next, H .both .next))
+  pub x-room : (x < rows most) × (c .next < 256)
+  x-room = fits-row (omega (arith, x-low (H .both), H .third .next, H .both .next))
 
-  module _ {t₁ : List ℕ} (e₁ : t₁ ≡ join x (c .next) t) where
-    length₁ : length t₁ ≡ 2 * rows n
-    length₁ = ap length e₁ ∙ length-join t x (c .next) ∙ third-length
+  pub y-room : (y < rows most) × (c .next < 256)
+  y-room = fits-row (omega (arith, y-low (H .both), H .third .next))
 
-    pub y-room : (2 * y + 1 < length t₁) × (y < 256) × (c .next < 256)
-    y-room = fits-row t₁ y length₁ (omega (arith, y-low (H .both), H .third .next))
+  pub z-room : (z < rows most) × (c .next < 256)
+  z-room = fits-row z-low
 
-    module _ {t₂ : List ℕ} (e₂ : t₂ ≡ join y (c .next) t₁) where
-      pub z-room : (2 * z + 1 < length t₂) × (z < 256) × (c .next < 256)
-      z-room = fits-row t₂ z
-          (ap length e₂ ∙ length-join t₁ y (c .next) ∙ length₁) z-low
-
-      pub three-parsed : here s (c .at) closes ≡ true → {u : List ℕ} → u ≡ join z (c .next) t₂
-          → (r : Parsed) → EndIs s (c .at + 1) r → ParsedIs n s u r
-      unfolding table
-      three-parsed e q =
-          let T = H .both in
-          let Q = H .third in
-          end-parsed
-          (three-closing (T .few) s (T .opened) (T .past-first) (T .parted) (T .past)
-          (some T (H .left)) (H .parted) past-third e)
-          (q ∙ rw (
-            e₂,
-            e₁,
-            Q .written,
-            Q .named,
-            Q .next,
-            T .next,
-            T .named,
-            T .named-first,
-            T .written,
-          ))
+  pub three-parsed : {t₁ t₂ : List ℕ} → t₁ ≡ join x (c .next) t → t₂ ≡ join y (c .next) t₁
+      → here s (c .at) closes ≡ true → {u : List ℕ} → u ≡ join z (c .next) t₂
+      → (r : Parsed) → EndIs s (c .at + 1) r → ParsedIs n s u r
+  unfolding table
+  three-parsed e₁ e₂ e {u} q =
+      let T = H .both in
+      let Q = H .third in
+      end-parsed
+      (three-closing (T .few) s (T .opened) (T .past-first) (T .parted) (T .past)
+      (some T (H .left)) (H .parted) past-third e)
+      u (rw (
+        q,
+        e₂,
+        e₁,
+        Q .written,
+        Q .named,
+        Q .next,
+        T .next,
+        T .named,
+        T .named-first,
+        T .written,
+        take-join,
+        take-join,
+        take-join,
+        take-rows,
+        take-rows,
+        take-rows,
+        take-blank (T .few),
+      ))

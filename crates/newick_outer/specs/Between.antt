@@ -1,12 +1,13 @@
 -- What only stands between the functions: how much of the outermost group was
 -- read.
-use Prim.Native.Nat.{ℕ, _+_, _≤_, _<_}
+use Prim.Native.Nat.{ℕ, _+_, _*_, _≤_, _<_}
 use mathlib.Core.Path.{_≡_}
 use mathlib.Core.Logic.{_⊎_}
 use mathlib.Core.Bool.{true, false}
 use mathlib.Core.List.{List}
-use lib.ListN.{length}
+use lib.ListN.{length, take}
 use Rattle.taxa.specs.Most.{most}
+use Rattle.tree.specs.Tree.{rows}
 use Rattle.newick_grammar.specs.Newick.{Member, Outermost, Stands, NoTree, opens, comma, semicolon}
 use Rattle.newick_grammar.specs.Numbers.{groups, node, withRows, blank, table}
 use Rattle.newick_members.specs.Between.{mark, here, Past}
@@ -24,7 +25,7 @@ pub record One (n : ℕ) (s t : List ℕ) (c : Cursor) (x : ℕ) : Type 0 where
   pub next : c .next ≡ n + groups first
   pub used : c .used ≡ mark first 0
   pub named : x ≡ node first n
-  pub written : t ≡ withRows first n (blank n)
+  pub written : t ≡ withRows first n (blank most)
 
 -- its second member is read, the first up to the place p
 pub record Two (n : ℕ) (s t : List ℕ) (c : Cursor) (x y : ℕ) : Type 0 where
@@ -41,7 +42,7 @@ pub record Two (n : ℕ) (s t : List ℕ) (c : Cursor) (x y : ℕ) : Type 0 wher
   pub used : c .used ≡ mark second (mark first 0)
   pub named-first : x ≡ node first n
   pub named : y ≡ node second (n + groups first)
-  pub written : t ≡ withRows second (n + groups first) (withRows first n (blank n))
+  pub written : t ≡ withRows second (n + groups first) (withRows first n (blank most))
 
 -- the text ends with a semicolon at a place; or it lacks that, or goes on
 abbrev pub EndIs : List ℕ → ℕ → Parsed → Type 0
@@ -50,7 +51,7 @@ EndIs s at (parsed.Bad p) =
     ((p ≡ at) × (here s at semicolon ≡ false))
     ⊎ ((p ≡ at + 1) × (here s at semicolon ≡ true) × (at + 1 < length s))
 
--- the text is a tree, whose table is written; or it is none
+-- the text is a tree, whose table stands at the start of t; or it is none
 abbrev pub ParsedIs : ℕ → List ℕ → List ℕ → Parsed → Type 0
-ParsedIs n s t parsed.Whole = (o : Outermost) × Stands n s o × (t ≡ table n o)
+ParsedIs n s t parsed.Whole = (o : Outermost) × Stands n s o × (take (2 * rows n) t ≡ table n o)
 ParsedIs n s t (parsed.Bad p) = NoTree n s p

@@ -1,15 +1,17 @@
 // The outermost group of a tree's Newick text, of two members or three, and
 // the end of the text.
-ghost use Prim.Native.Nat.{_+_, _*_, _<_, _≤_};
+ghost use Prim.Native.Nat.{_+_, _<_, _≤_};
 ghost use mathlib.Core.Path.{_≡_};
 ghost use lib.ListN.{length};
 ghost use Rattle.taxa.specs.Most.{most};
 ghost use Rattle.taxa.specs.Sets.{size};
+ghost use Rattle.tree.specs.Tree.{rows};
 ghost use Rattle.newick_grammar.specs.Numbers as numbers;
 ghost use Rattle.newick_grammar.specs.Numbers.{blank};
 ghost use Rattle.newick_outer.specs.Between.{One, Two, EndIs, ParsedIs};
 use newick_members::Cursor;
 use newick_members::Got;
+use newick_members::TABLE;
 use newick_members::ahead;
 use newick_members::is_at;
 use newick_members::join;
@@ -36,8 +38,8 @@ fn finish(s: &[u8], at: usize) -> Parsed
 }
 
 // One row joins the nodes x and y, and takes the smaller number.
-fn join_both(table: &mut [u8], x: usize, y: usize)
-    requires { ⌜ (2 * numbers.smaller x y + 1 < length (now table)) × (x < 256) × (y < 256) ⌝ }
+fn join_both(table: &mut [u8; TABLE], x: usize, y: usize)
+    requires { ⌜ (numbers.smaller x y < rows most) × (x < 256) × (y < 256) ⌝ }
     ensures { λ _.
         let t = now (table .entry) in
         ⌜ now (table .exit) ≡ numbers.join (numbers.smaller x y) (numbers.larger x y) t ⌝ }
@@ -51,7 +53,7 @@ fn join_both(table: &mut [u8], x: usize, y: usize)
 
 // The third outermost member, after the nodes x and y, and the end of the
 // text. The outermost group is the last node.
-fn third(s: &[u8], n: usize, c: Cursor, x: usize, y: usize, table: &mut [u8]) -> Parsed
+fn third(s: &[u8], n: usize, c: Cursor, x: usize, y: usize, table: &mut [u8; TABLE]) -> Parsed
     requires { ⌜ Two n (now s) (now table) c x y × (size n (c .used) < n) ⌝ }
     ensures { λ r. ⌜ ParsedIs n (now (s .entry)) (now (table .exit)) r ⌝ }
 {
@@ -78,7 +80,7 @@ fn third(s: &[u8], n: usize, c: Cursor, x: usize, y: usize, table: &mut [u8]) ->
 // What follows two outermost members, the nodes x and y: the end of the text
 // where they have all taxa, and the outermost group is no node then; otherwise
 // a third member.
-fn after_two(s: &[u8], n: usize, c: Cursor, x: usize, y: usize, table: &mut [u8]) -> Parsed
+fn after_two(s: &[u8], n: usize, c: Cursor, x: usize, y: usize, table: &mut [u8; TABLE]) -> Parsed
     requires { ⌜ Two n (now s) (now table) c x y ⌝ }
     ensures { λ r. ⌜ ParsedIs n (now (s .entry)) (now (table .exit)) r ⌝ }
 {
@@ -94,7 +96,7 @@ fn after_two(s: &[u8], n: usize, c: Cursor, x: usize, y: usize, table: &mut [u8]
 }
 
 // What follows the first outermost member, the node x.
-fn after_one(s: &[u8], n: usize, c: Cursor, x: usize, table: &mut [u8]) -> Parsed
+fn after_one(s: &[u8], n: usize, c: Cursor, x: usize, table: &mut [u8; TABLE]) -> Parsed
     requires { ⌜ One n (now s) (now table) c x ⌝ }
     ensures { λ r. ⌜ ParsedIs n (now (s .entry)) (now (table .exit)) r ⌝ }
 {
@@ -109,8 +111,8 @@ fn after_one(s: &[u8], n: usize, c: Cursor, x: usize, table: &mut [u8]) -> Parse
 }
 
 // The tree that a text is, its rows written into a blank table.
-pub fn outermost(s: &[u8], n: usize, table: &mut [u8]) -> Parsed
-    requires { ⌜ (4 ≤ n) × (n ≤ most) × (now table ≡ blank n) ⌝ }
+pub fn outermost(s: &[u8], n: usize, table: &mut [u8; TABLE]) -> Parsed
+    requires { ⌜ (4 ≤ n) × (n ≤ most) × (now table ≡ blank most) ⌝ }
     ensures { λ r. ⌜ ParsedIs n (now (s .entry)) (now (table .exit)) r ⌝ }
 {
     if !is_at(s, 0, b'(') {

@@ -1,30 +1,19 @@
 -- What the call says at each of its tests. Assumes nothing.
 use mathlib.Core.Path.{_≡_, refl, ap, ap₂, _∙_}
-use mathlib.Core.List.{List, _∷_, _++_}
-use Prim.Native.Nat.{ℕ, zero, suc, _*_, _≤_, _<_}
+use mathlib.Core.List.{List, _++_}
+use Prim.Native.Nat.{ℕ, _*_, _≤_, _<_}
 use native.Mathlib.Omega.{arith}
-use lib.ListN.{length, take, drop, replicate}
+use lib.ListN.{length, take, drop}
 use lib.Seq.{take-all}
-use Rattle.taxa.specs.Most.{most}
 use Rattle.tree.specs.Tree.{rows}
 use Rattle.calls.specs.declared.Refusal.the-variants.{Count, Room, Text}
 use Rattle.newick_grammar.specs.Newick.{Outermost, Stands, NoTree}
-use Rattle.newick_grammar.specs.Numbers.{blank, table}
+use Rattle.newick_grammar.specs.Numbers.{table}
 use Rattle.newick_grammar.proofs.Valid.{table-length}
 use Rattle.newick_reader.specs.declared.Reading.the-variants as reading
 use Rattle.calls.specs.Calls.{gives, refuses, refusesAt}
 use Rattle.calls.proofs.CallLaws.{call-refuses, call-refusesAt, call-gives}
 use Rattle.newick_reader.specs.Promises.{Right, of-count, of-text, of-room, of-tree, Plants}
-
--- the start of a row of zeros
-take-zeros : (k m : ℕ) → k ≤ m → take {A = ℕ} k (replicate m 0) ≡ replicate k 0
-take-zeros zero m h = refl
-take-zeros (suc k) zero h = absurd (omega (arith, h))
-take-zeros (suc k) (suc m) h = ap (λ (l : List ℕ). 0 ∷ l)
-    (take-zeros k m (omega (arith, h)))
-
-pub zeros-blank : (n : ℕ) → n ≤ most → take {A = ℕ} (2 * rows n) (replicate 250 0) ≡ blank n
-zeros-blank n few = take-zeros (2 * rows n) 250 (omega (arith, few))
 
 module _ {n : ℕ} {s out : List ℕ} where
   pub wrong-count : (Right n → ⊥) → Plants n s out (reading.Refused Count) out

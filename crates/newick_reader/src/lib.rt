@@ -6,6 +6,7 @@ ghost use Rattle.taxa.specs.Most.{most};
 ghost use Rattle.newick_grammar.specs.Numbers.{blank};
 ghost use Rattle.newick_reader.specs.Promises.{Plants};
 use calls::Refusal;
+use newick_members::TABLE;
 use newick_outer::Parsed;
 
 // The answer of the call: the table is written; or a refusal; or one with its
@@ -17,17 +18,19 @@ pub enum Reading {
 }
 
 // Reads the tree into a blank table, and gives it where `out` has room.
-fn plant(n: usize, text: &[u8], table: &mut [u8], out: &mut [u8]) -> Reading
-    requires { ⌜ (4 ≤ n) × (n ≤ most) × (now table ≡ blank n) ⌝ }
+fn plant(n: usize, text: &[u8], table: &mut [u8; TABLE], out: &mut [u8]) -> Reading
+    requires { ⌜ (4 ≤ n) × (n ≤ most) × (now table ≡ blank most) ⌝ }
     ensures { λ r. ⌜ Plants n (now (text .entry)) (now (out .entry)) r (now (out .exit)) ⌝ }
 {
     match newick_outer::outermost(text, n, table) {
         Parsed::Bad(p) => Reading::RefusedAt(Refusal::Text, p),
         Parsed::Whole => {
-            if out.len() < table.len() {
+            let whole = &table[..];
+            let found = &whole[..2 * (2 * n - 3)];
+            if out.len() < found.len() {
                 return Reading::Refused(Refusal::Room);
             }
-            bytes::copy(table, out);
+            bytes::copy(found, out);
             Reading::Table
         }
     }
@@ -44,6 +47,6 @@ pub fn read_newick(n: usize, text: &[u8], out: &mut [u8]) -> Reading
     if taxa::MOST < n {
         return Reading::Refused(Refusal::Count);
     }
-    let mut table = [0u8; 250];
-    plant(n, text, &mut table[..2 * (2 * n - 3)], out)
+    let mut table = [0u8; TABLE];
+    plant(n, text, &mut table, out)
 }

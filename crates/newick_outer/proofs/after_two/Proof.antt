@@ -14,7 +14,7 @@ use Rattle.newick_outer.proofs.after_two.Tie as tie
 
 -- past the first test the two members have all taxa
 abbrev entry : tie.Else1 → tie.Start
-entry c = c .before .before .before .before
+entry c = c .before .before .before
 
 all : (c : tie.Else1) → size most (entry c .args .c .used) ≡ entry c .args .n
 all c = sym (c .before .size .ensures) ∙ c .if1 .left
@@ -30,11 +30,11 @@ closed c = told-true (c .before .is-at .ensures) (c .if2 .left)
 third-requires : tie.Need-third-requires
 third-requires c κs =
     let at-size = c .before .before in
-    let T = at-size .before .before .before .pre in
+    let T = at-size .before .before .pre in
     (T, some-left T (λ q. c .before .if1 .taken (at-size .size .ensures ∙ q)))
 
 returns : tie.Need-returns
-returns c = c .before .before .third .ensures
+returns c = c .third .ensures
 
 returns-2 : tie.Need-returns-2
 returns-2 c =
@@ -48,13 +48,13 @@ join-both-requires c κs =
 
 finish-requires : tie.Need-finish-requires
 finish-requires c κs =
-    let at-if2 = c .before .before .before .before in
+    let at-if2 = c .before .before in
     let i = here-in (entry (past-all at-if2) .args .s .now) _ closes (closed at-if2) in
     search needs
 
 returns-3 : tie.Need-returns-3
 returns-3 c =
-    let at-join-both = c .before .before .before in
+    let at-join-both = c .before in
     let at-if2 = at-join-both .before .before in
     let at-if1 = past-all at-if2 in
     two-parsed (entry at-if1 .pre) (all at-if1) (closed at-if2) (at-join-both .join-both .ensures)
@@ -62,6 +62,5 @@ returns-3 c =
 
 pub after-two-spec : {M : Type 1} → statement M
 after-two-spec =
-    tie.close (tie.spec (λ c κs. search needs) third-requires (λ c. search needs) returns
-    (λ c κs. search needs) returns-2 join-both-requires (λ c. search needs) finish-requires
-    (λ c. search needs) returns-3)
+    tie.close (tie.spec (λ c κs. search needs) third-requires returns (λ c κs. search needs)
+    returns-2 join-both-requires (λ c. search needs) finish-requires returns-3)

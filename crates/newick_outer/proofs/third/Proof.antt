@@ -15,21 +15,21 @@ use Rattle.newick_outer.proofs.third.Tie as tie
 
 -- past the first test a comma stands at the cursor
 abbrev entry : tie.Else1 → tie.Start
-entry c = c .before .before .before .before
+entry c = c .before .before .before
 
 parted : (c : tie.Else1) → here (entry c .args .s .now) (entry c .args .c .at) comma ≡ true
 parted c = told-true (c .before .is-at .ensures) (c .if1 .left)
 
 -- the third member is read
 abbrev past-comma : tie.After-d → tie.Else1
-past-comma c = c .before .before .before .before .before .before .before
+past-comma c = c .before .before .before .before .before
 
 three : (c : tie.After-d)
     → let a = entry (past-comma c) .args in
-    Three (a .n) (a .s .now) (c .before .before .before .before .member .last .1 .1 .1 .1 .1 .0)
+    Three (a .n) (a .s .now) (c .before .before .member .last .1 .1 .1 .1 .1 .0)
     (c .d .given .0 .0) (a .x) (a .y) (c .d .given .0 .1 .0)
 three c =
-    let at-member = c .before .before .before .before in
+    let at-member = c .before .before in
     let st = entry (past-comma c) in
     record {
       table = st .args .table .now;
@@ -59,14 +59,14 @@ abbrev past-close : tie.After-join → tie.Else2
 past-close c = c .before .before
 
 abbrev past-row : tie.After-join2 → tie.After-join
-past-row c = c .before .before .before .before
+past-row c = c .before .before
 
-abbrev past-rows : tie.After-slice-known5 → tie.After-join2
-past-rows c = c .before .before .before .before .before .before
+abbrev past-rows : tie.After-join3 → tie.After-join2
+past-rows c = c .before .before
 
 returns : tie.Need-returns
 returns c =
-    let st = c .before .before .before .before in
+    let st = c .before .before .before in
     no-third (st .pre .0) (st .pre .1) (told-false (c .before .is-at .ensures) (c .if1 .taken))
 
 ahead-requires : tie.Need-ahead-requires
@@ -89,16 +89,10 @@ join-requires : tie.Need-join-requires
 join-requires c κs = x-room (three (past-third (c .before)))
 
 join-requires-2 : tie.Need-join-requires-2
-join-requires-2 c κs =
-    let at-join = c .before .before .before in
-    y-room (three (past-third (past-close at-join))) (at-join .join .ensures)
+join-requires-2 c κs = y-room (three (past-third (past-close (c .before))))
 
 join-requires-3 : tie.Need-join-requires-3
-join-requires-3 c κs =
-    let at-join2 = c .before .before .before in
-    let at-join = past-row at-join2 in
-    z-room (three (past-third (past-close at-join))) (at-join .join .ensures)
-    (at-join2 .join2 .ensures)
+join-requires-3 c κs = z-room (three (past-third (past-close (past-row (c .before)))))
 
 add-finish : tie.Need-add-finish
 add-finish c =
@@ -112,12 +106,12 @@ finish-requires c κs = let i = inside (past-close (past-row (past-rows c))) in 
 
 returns-3 : tie.Need-returns-3
 returns-3 c =
-    rw (c .before .q .given .1) at (c .before .before .before .before .before .member .ensures)
+    rw (c .before .q .given .1) at (c .before .before .before .member .ensures)
 
 returns-4 : tie.Need-returns-4
 returns-4 c =
-    let at-join3 = c .before .before .before in
-    let at-join2 = past-rows (c .before) in
+    let at-join3 = c .before in
+    let at-join2 = past-rows at-join3 in
     let at-join = past-row at-join2 in
     let at-if2 = past-close at-join in
     three-parsed (three (past-third at-if2)) (at-join .join .ensures) (at-join2 .join2 .ensures)
@@ -126,6 +120,5 @@ returns-4 c =
 pub third-spec : {M : Type 1} → statement M
 third-spec =
     tie.close (tie.spec (λ c κs. search needs) returns ahead-requires member-requires
-    (λ c. search needs) (λ c. search needs) (λ c κs. search needs) (λ c. search needs) returns-2
-    join-requires join-requires-2 join-requires-3 add-finish finish-requires (λ c. search needs)
-    returns-3 (λ c. search needs) returns-4)
+    (λ c. search needs) (λ c. search needs) (λ c κs. search needs) returns-2 join-requires
+    join-requires-2 join-requires-3 add-finish finish-requires returns-3 returns-4)
