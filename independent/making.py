@@ -88,6 +88,17 @@ def unreachable_table(pick, n):
             return tusvlane.table_of(rows)
 
 
+def exchanged_ends(pick, n, table):
+    """Two rows exchange an end: a tree again, or two pieces, one of which has a ring."""
+    rows = tusvlane.rows_of(table)
+    first, second = pick.sample(range(len(rows)), 2)
+    (kept, given), (taken, left) = rows[first], pick.sample(list(rows[second]), 2)
+    if kept == taken or given == left:
+        return table
+    rows[first], rows[second] = (kept, taken), (given, left)
+    return tusvlane.table_of(rows)
+
+
 def wrong_degrees(pick, n, table):
     """One or two ends are set to another node, the rows staying in order."""
     rows = [list(row) for row in tusvlane.rows_of(table)]
@@ -108,9 +119,11 @@ def wrong_ends(pick, n, table):
 
 def wrong_table(pick, n, table):
     """A table of the right length that is most likely no tree."""
-    way = pick.randrange(6)
+    way = pick.randrange(7)
     if way == 0:
         return unreachable_table(pick, n)
+    if way == 6:
+        return exchanged_ends(pick, n, table)
     if way == 1:
         return wrong_degrees(pick, n, table)
     if way == 2:
