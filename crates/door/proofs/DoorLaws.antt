@@ -112,7 +112,7 @@ module _ {n : ℕ} {t : List ℕ} {c : Checked} {near s : List ℕ} (f : Found n
   pub entered-tree : {r : Entry} → c ≡ Checked.Tree → entrySays r ≡ openedSaid n t parts m
       → Entered n t parts m r near s
   entered-tree h e =
-      let w : treeSaid n t ≡ gives tt = sym (f .says) ∙ ap checkSays h in
+      let w : treeSaid n t ≡ gives tt = sym (f .sighted .says) ∙ ap checkSays h in
       record {
         says = e ∙ sym (ap (λ (x : Said (Unit {0})). thenSaid x (λ u. openedSaid n t parts m)) w);
         looked = λ g. found-given f g;

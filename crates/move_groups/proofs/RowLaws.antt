@@ -1,19 +1,14 @@
 -- What the stored sides say of one row: the taxa beyond it, whether it leads
 -- to row b, and which end of it b lies with. Assumes nothing.
-use mathlib.Core.Path.{_≡_, refl, sym, ap, ap₂, _∙_}
-use mathlib.Core.Bool.{Bool, true, false, not, _&&_}
+use mathlib.Core.Path.{_≡_, sym, ap, ap₂, _∙_}
 use mathlib.Core.List.{List}
-use Prim.Native.Nat.{ℕ, _^_, _%_, _<_}
-use lib.Dec.{ltb}
+use Prim.Native.Nat.{ℕ, _<_}
 use lib.ListN.{getD}
-use borrow.Author.Tests.{ne-eqb}
-use Rattle.taxa.specs.Sets.{pick, has, less, full}
-use Rattle.taxa.proofs.Sets.{has-less, has-mod, has-ones, ext}
+use Rattle.taxa.specs.Sets.{pick, has}
 use Rattle.tree.specs.Tree.{lo, hi, rows, far, part}
-use Rattle.tree.specs.Splits.{side}
 use Rattle.tree.specs.Refusals.{Accepted}
-use Rattle.tree.proofs.Joins.{hi-touch, far-hi, joins-differ}
-use Rattle.tree.proofs.Ends.{end-joins, far-end, far-far, side-hi}
+use Rattle.tree.proofs.Joins.{hi-touch, far-hi}
+use Rattle.tree.proofs.Ends.{far-end, far-far}
 use Rattle.sides.specs.Between.{At, Sides, Sided}
 use Rattle.sides.proofs.FillLaws.{at-end}
 use Rattle.moves.specs.Moves.{endWith}
@@ -21,36 +16,8 @@ use Rattle.moves.specs.Groups.{beyond, leads}
 use Rattle.moves.proofs.Ways.Leads.{parts, leads-beyond, leads-parts}
 
 -- ---- what lies beyond a row
-less-twice : (n s : ℕ) → less (full n) (less (full n) (s % 2 ^ n)) ≡ s % 2 ^ n
-less-twice n s = ext (less (full n) (less (full n) (s % 2 ^ n))) (s % 2 ^ n) (λ i.
-    has-less (full n) (less (full n) (s % 2 ^ n)) i
-    ∙ ap₂ (λ (p q : Bool). p && not q) (has-ones n i) (has-less (full n) (s % 2 ^ n) i
-    ∙ ap₂ (λ (p q : Bool). p && not q) (has-ones n i) (has-mod n s i))
-    ∙ bools (ltb i n) (has s i) ∙ sym (has-mod n s i))
-  where
-    bools : (p q : Bool) → (p && not (p && not (p && q))) ≡ (p && q)
-    bools true true = refl
-    bools true false = refl
-    bools false q = refl
-
 pub far-at : {n : ℕ} {t : List ℕ} {x v : ℕ} → At n t x v → At n t x (far t x v)
 far-at a = record { good = a .good; row = a .row; touch = far-end (at-end a) .touch }
-
--- u is the smaller end of row x
-module _ {n : ℕ} {t s : List ℕ} {v x u : ℕ} (k : (At n t x v) × (Sides n t s))
-    (h : u ≡ lo t x) where
-  pub from-hi : (u ≡ v → ⊥) → getD s x 0 ≡ beyond n t v x
-  unfolding beyond far side
-  from-hi d = k .1 .right x (k .0 .row) ∙ rw (ne-eqb (lo t x) v (λ w. d (h ∙ w)))
-
-  pub from-lo : u ≡ v → less (full n) (getD s x 0) ≡ beyond n t v x
-  unfolding beyond
-  from-lo d =
-      let E = at-end (k .0) in
-      let apart : lo t x ≡ far t x v → ⊥ =
-      λ w. joins-differ x (E .valid) (E .row) v (far t x v) (end-joins E) (sym d ∙ h ∙ w) in
-      ap (less (full n)) (k .1 .right x (E .row) ∙ sym (side-hi (far-end E) apart))
-      ∙ less-twice n (part n t x (far t x v))
 
 -- ---- the test of leading
 pub leads-by : {n : ℕ} {t s : List ℕ} {v x b y : ℕ} → (At n t x v) × (Sides n t s) × (b < rows n)

@@ -25,12 +25,7 @@ pub fn beyond(n: usize, t: &[u8], s: &[u64], v: usize, x: usize) -> u64
     requires { let t = now t in ⌜ (At n t x v) × (Sides n t (now s)) ⌝ }
     ensures { λ r. ⌜ r ≡ groups_spec.beyond n (now (t .entry)) v x ⌝ }
 {
-    let y = s[x];
-    if table::lo(t, x) == v {
-        let all = taxa::full(n);
-        return taxa::less(all, y);
-    }
-    y
+    sides::across(n, t, x, v, s[x])
 }
 
 // Whether row x, seen from its end v, is row b or leads to it.

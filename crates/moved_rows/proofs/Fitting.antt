@@ -45,7 +45,7 @@ fits-moves few k N = record {
   a-p = k .a-p;
   inner = k .inner;
   room = N .room;
-  two = near-others _ _ _ _ _ (k .valid) N (k .a-lt) (k .a-p) (k .inner);
+  two = near-others (k .valid) N (k .a-lt) (k .a-p) (k .inner);
 }
 
 -- the same at a's other end q, after one end has moved

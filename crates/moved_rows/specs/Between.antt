@@ -20,7 +20,7 @@ pub record EndMoves (n : ℕ) (t near : List ℕ) (p a b : ℕ) : Type 0 where
   pub b-lt : b < rows n
   pub a-p : touches t a p ≡ true
   pub inner : n ≤ p
-  pub room : length near ≡ 3 * nodes most
+  pub room : length near ≡ 4 * nodes most
   pub two :
       others t a p (rows n) ≡ otherFirst a near p ∷ otherSecond a near p ∷ []
 

@@ -19,7 +19,7 @@ use Rattle.newick_grammar.proofs.Labels.{Below, two-total, three-total}
 use Rattle.newick_grammar.proofs.Low.{low, low-some, low-next}
 use Rattle.newick_grammar.proofs.Rooted.{rooted-valid}
 use Rattle.newick_grammar.proofs.Writes.{Writes, none, put, joins, firsts, seconds, Fit}
-use Rattle.newick_grammar.proofs.Writes.{length-written, Whole, whole-rooted, length-joins}
+use Rattle.newick_grammar.proofs.Writes.{length-written, Whole, whole-rooted}
 
 -- ---- the rows of a member, before those of w
 unfoldable within : Member → ℕ → Writes → Writes
@@ -91,13 +91,7 @@ node-lt n (taxon d) k b h =
     omega (arith, b d here)
 node-lt n (group l r) k b h = omega arith
 
--- the rows of a member leave the table its length
-pub length-rows : (a : Member) (k : ℕ) (t : List ℕ)
-    → length (withRows a k t) ≡ length t
-unfolding joins
-length-rows a k t = ap length (sym (within-joins a k none t)) ∙ length-joins (within a k none) t
-
--- so every row of a member goes to a larger node, which is no taxon
+-- every row of a member goes to a larger node, which is no taxon
 within-fit : (n m : ℕ) (a : Member) (k : ℕ) (w : Writes) → Below n a → n ≤ k
     → k + groups a ≤ m
     → Fit n m w → Fit n m (within a k w)

@@ -1,58 +1,69 @@
--- What only stands between the functions: an array of the rows at each
--- node, three places a node.
-use Prim.Native.Nat.{ℕ, zero, suc, _+_, _*_, _≤_, _<_}
+-- What only stands between the functions: a table of four places for each
+-- node. The first three hold the rows at an inner node; the fourth is for an
+-- order of the nodes, which stands apart.
+use Prim.Native.Nat.{ℕ, _+_, _*_, _≤_, _<_}
 use mathlib.Core.Path.{_≡_}
-use mathlib.Core.List.{List, [], _∷_}
-use lib.Dec.{eqb}
-use lib.ListN.{length, getD, set, replicate}
+use mathlib.Core.Logic.{_⊎_}
+use mathlib.Core.Bool.{true}
+use mathlib.Core.List.{List}
+use lib.Dec.{eqb, ltb}
+use lib.ListN.{length, getD, replicate}
 use Rattle.taxa.specs.Most.{most}
 use Rattle.taxa.specs.Sets.{pick}
-use Rattle.tree.specs.Tree.{lo, hi, rows, nodes, rowsAt}
+use Rattle.tree.specs.Tree.{rows, nodes, touches}
 
--- a free place holds 255, which is no row
+-- a free place holds 255, which is no row and no node
 abbrev pub free : ℕ
 free = 255
 
 -- all places are free
 abbrev pub noRows : List ℕ
-noRows = replicate (3 * nodes most) free
+noRows = replicate (4 * nodes most) free
 
--- r put in v's first free place of a
-unfoldable pub hooked : List ℕ → ℕ → ℕ → List ℕ
-hooked a v r =
-    pick (eqb (getD a (3 * v) 0) free) (set a (3 * v) r)
-    (pick (eqb (getD a (3 * v + 1) 0) free) (set a (3 * v + 1) r) (set a (3 * v + 2) r))
+-- what node v's first three places hold
+abbrev pub up : List ℕ → ℕ → ℕ
+up a v = getD a (4 * v) 0
 
--- the first k rows of t put at their two ends, row after row, all places being
--- free before
-unfoldable pub hookedTo : List ℕ → ℕ → List ℕ
-hookedTo t zero = noRows
-hookedTo t (suc i) = hooked (hooked (hookedTo t i) (lo t i) i) (hi t i) i
+abbrev pub first : List ℕ → ℕ → ℕ
+first a v = getD a (4 * v + 1) 0
 
--- a holds the row at each taxon and the three rows at each inner node, in
--- order
+abbrev pub second : List ℕ → ℕ → ℕ
+second a v = getD a (4 * v + 2) 0
+
+-- x, y and z are the three rows at node v
+pub record Meet (n : ℕ) (t : List ℕ) (v x y z : ℕ) : Type 0 where
+  pub x-lt : x < rows n
+  pub y-lt : y < rows n
+  pub z-lt : z < rows n
+  pub x-at : touches t x v ≡ true
+  pub y-at : touches t y v ≡ true
+  pub z-at : touches t z v ≡ true
+  pub xy : x ≡ y → ⊥
+  pub xz : x ≡ z → ⊥
+  pub yz : y ≡ z → ⊥
+  pub only : (r : ℕ) → r < rows n → touches t r v ≡ true → (r ≡ x) ⊎ ((r ≡ y) ⊎ (r ≡ z))
+
+-- a holds the three rows at each inner node
 pub record Near (n : ℕ) (t a : List ℕ) : Type 0 where
-  pub room : length a ≡ 3 * nodes most
-  pub one : (v : ℕ) → v < n → rowsAt t v (rows n) ≡ getD a (3 * v + 0) 0 ∷ []
-  pub three : (v : ℕ) → n ≤ v → v < nodes n
-      → rowsAt t v (rows n) ≡ getD a (3 * v + 0) 0 ∷ getD a (3 * v + 1) 0 ∷ getD a (3 * v + 2) 0
-      ∷ []
-
--- a is what the rows of t leave of free places, and so holds the rows at each
--- node
-pub record Hooked (n : ℕ) (t a : List ℕ) : Type 0 where
-  pub exact : a ≡ hookedTo t (rows n)
-  pub near : Near n t a
+  pub room : length a ≡ 4 * nodes most
+  pub three : (v : ℕ) → n ≤ v → v < nodes n → Meet n t v (up a v) (first a v) (second a v)
 
 -- of v's three places, the first that is not e, and the second
+abbrev pub oneOther : ℕ → List ℕ → ℕ → ℕ
+oneOther e a v = pick (eqb (up a v) e) (first a v) (up a v)
+
+abbrev pub nextOther : ℕ → List ℕ → ℕ → ℕ
+nextOther e a v =
+    pick (eqb (up a v) e) (second a v) (pick (eqb (first a v) e) (second a v) (first a v))
+
+-- these two, the lower one first
 abbrev pub otherFirst : ℕ → List ℕ → ℕ → ℕ
 otherFirst e a v =
-    pick (eqb (getD a (3 * v + 0) 0) e) (getD a (3 * v + 1) 0) (getD a (3 * v + 0) 0)
+    pick (ltb (oneOther e a v) (nextOther e a v)) (oneOther e a v) (nextOther e a v)
 
 abbrev pub otherSecond : ℕ → List ℕ → ℕ → ℕ
 otherSecond e a v =
-    pick (eqb (getD a (3 * v + 0) 0) e) (getD a (3 * v + 2) 0)
-    (pick (eqb (getD a (3 * v + 1) 0) e) (getD a (3 * v + 2) 0) (getD a (3 * v + 1) 0))
+    pick (ltb (oneOther e a v) (nextOther e a v)) (nextOther e a v) (oneOther e a v)
 
 -- f and g are these two
 pub record OtherTwo (e : ℕ) (a : List ℕ) (v f g : ℕ) : Type 0 where

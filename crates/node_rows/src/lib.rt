@@ -1,16 +1,17 @@
-// The rows at each node, three places a node.
-ghost use Prim.Native.Nat.{_+_, _*_, _-_, _<_};
+// The rows at each node, in the first three of its four places.
+ghost use Prim.Native.Nat.{_*_, _<_};
 ghost use mathlib.Core.Path.{_≡_};
-ghost use lib.ListN.{length, getD};
+ghost use lib.Dec.{ltb};
+ghost use lib.ListN.{length};
 ghost use Rattle.taxa.specs.Most.{most};
+ghost use Rattle.taxa.specs.Sets.{pick};
 ghost use Rattle.tree.specs.Tree.{nodes};
-ghost use Rattle.table.specs.Between.{Rowed};
-ghost use Rattle.node_rows.specs.Between.{noRows, hooked, Hooked, OtherTwo};
+ghost use Rattle.node_rows.specs.Between.{OtherTwo};
 
-// Three places for each of the most nodes that a tree has.
-pub const PLACES: usize = 378;
+// Four places for each of the most nodes that a tree has.
+pub const PLACES: usize = 504;
 
-// A place that holds no row.
+// A place that holds nothing.
 pub const FREE: u8 = 255;
 
 // Two rows.
@@ -19,61 +20,30 @@ pub struct Two {
     pub g: usize,
 }
 
-// Puts row r in node v's first free place.
-fn hook(a: &mut [u8; PLACES], v: usize, r: u8)
-    requires { ⌜ v < nodes most ⌝ }
-    ensures { λ _. ⌜ now (a .exit) ≡ hooked (now (a .entry)) v r ⌝ }
+// The rows x and y, the lower one first.
+fn lower_first(x: usize, y: usize) -> Two
+    ensures { λ o. ⌜ (o .f ≡ pick (ltb x y) x y) × (o .g ≡ pick (ltb x y) y x) ⌝ }
 {
-    let p = 3 * v;
-    if a[p] == FREE {
-        a[p] = r;
-        return;
+    if x < y {
+        return Two { f: x, g: y };
     }
-    if a[p + 1] == FREE {
-        a[p + 1] = r;
-        return;
-    }
-    a[p + 2] = r;
-}
-
-// Puts the rows at each node into their places, all of which are free before.
-pub fn hook_rows(n: usize, t: &[u8], a: &mut [u8; PLACES])
-    requires { ⌜ (Rowed n (now t)) × (now a ≡ noRows) ⌝ }
-    ensures { λ _. ⌜ Hooked n (now (t .entry)) (now (a .exit)) ⌝ }
-{
-    let m = 2 * n - 3;
-    let mut i: usize = 0;
-    while i < m {
-        let u = table::lo(t, i);
-        let v = table::hi(t, i);
-        let r = i as u8;
-        hook(a, u, r);
-        hook(a, v, r);
-        i += 1;
-    }
-}
-
-// The row in place k of node v.
-pub fn row_at(near: &[u8], v: usize, k: usize) -> usize
-    requires { ⌜ (v < nodes most) × (k < 3) × (length (now near) ≡ 3 * nodes most) ⌝ }
-    ensures { λ r. ⌜ r ≡ getD (now (near .entry)) (3 * v + k) 0 ⌝ }
-{
-    near[3 * v + k] as usize
+    Two { f: y, g: x }
 }
 
 // The two rows at node v other than e, the lower one first.
 pub fn others(near: &[u8], e: usize, v: usize) -> Two
-    requires { ⌜ (v < nodes most) × (length (now near) ≡ 3 * nodes most) ⌝ }
+    requires { ⌜ (v < nodes most) × (length (now near) ≡ 4 * nodes most) ⌝ }
     ensures { λ o. ⌜ OtherTwo e (now (near .entry)) v (o .f) (o .g) ⌝ }
 {
-    let x = row_at(near, v, 0);
-    let y = row_at(near, v, 1);
-    let z = row_at(near, v, 2);
+    let p = 4 * v;
+    let x = near[p] as usize;
+    let y = near[p + 1] as usize;
+    let z = near[p + 2] as usize;
     if x == e {
-        return Two { f: y, g: z };
+        return lower_first(y, z);
     }
     if y == e {
-        return Two { f: x, g: z };
+        return lower_first(x, z);
     }
-    Two { f: x, g: y }
+    lower_first(x, y)
 }

@@ -1,31 +1,27 @@
--- Laws for the traversal from taxon 0. Assumes nothing.
-use mathlib.Core.Path.{_≡_, refl, sym, ap, ap₂, _∙_, subst}
+-- Laws for the array of sides: how one side is read, and how it is stored.
+-- Assumes nothing.
+use mathlib.Core.Path.{_≡_, refl, sym, ap, ap₂, _∙_}
 use mathlib.Core.Logic.{_⊎_, inl, inr}
-use mathlib.Core.Bool.{Bool, true, false, not, _||_, true≢false}
+use mathlib.Core.Bool.{Bool, true, false, not, _&&_}
 use mathlib.Core.List.{List, [], _∷_}
-use Prim.Native.Nat.{ℕ, _+_, _*_, _^_, _%_, _≤_, _<_}
-use native.Mathlib.Omega.{arith}
-use lib.Dec.{eqb}
-use lib.ListN.{length, getD, set, length-set}
-use lib.Seq.{getD-set-same, getD-set-other}
-use lib.Bits.{bitOr}
-use borrow.Author.Tests.{eqb-true, eqb-false, ne-eqb}
-use Rattle.taxa.specs.Most.{most}
-use Rattle.taxa.specs.Sets.{has}
-use Rattle.taxa.proofs.Bools.{either}
-use Rattle.tree.specs.Tree.{lo, hi, rows, nodes, far, part}
+use Prim.Native.Nat.{ℕ, _^_, _%_, _≤_}
+use lib.Dec.{eqb, ltb}
+use lib.ListN.{set}
+use lib.Bits.{bitOr, or-comm}
+use borrow.Author.Tests.{eqb-true, eqb-false}
+use Rattle.taxa.specs.Sets.{less, full, has}
+use Rattle.taxa.proofs.Bools.{Either, either}
+use Rattle.taxa.proofs.Sets.{has-less, has-mod, has-ones, ext}
+use Rattle.tree.specs.Tree.{lo, far, part, Valid}
 use Rattle.tree.specs.Splits.{side}
-use Rattle.tree.specs.Refusals.{Accepted}
-use Rattle.tree.proofs.Joins.{touch-joins, joins-touch}
-use Rattle.tree.proofs.Colourings.{two-sides}
-use Rattle.tree.proofs.RowCounts.{Pair, pair-of, leaf-only}
-use Rattle.tree.proofs.Forks.{fork, node-side, taxa-both, leaf-side}
-use Rattle.tree.proofs.Ends.{EndOf, end-node, row-one}
-use Rattle.node_rows.specs.Between.{Near, OtherTwo}
-use Rattle.node_rows.proofs.NearLaws.{near-others}
-use Rattle.node_rows.proofs.PlaceLaws.{Across, place-0}
-use Rattle.sides.specs.Between.{At, Filled, Sides}
-use Rattle.sides.proofs.LookLaws.{accepted-rowed}
+use Rattle.tree.proofs.Joins.{joins-differ}
+use Rattle.tree.proofs.RowCounts.{Pair, pair-of}
+use Rattle.tree.proofs.Forks.{taxa-both}
+use Rattle.tree.proofs.Ends.{EndOf, end-joins, end-node, far-end, side-lo, side-hi}
+use Rattle.table.proofs.Ends.{told-other}
+use Rattle.node_rows.specs.Between.{up, first, second, Meet, Near, OtherTwo}
+use Rattle.node_rows.proofs.NearLaws.{near-others, meet-pair}
+use Rattle.sides.specs.Between.{At, noted, Behind}
 
 -- ---- an end, as a call has it
 pub at-end : {n : ℕ} {t : List ℕ} {e v : ℕ} → At n t e v → EndOf n t e v
@@ -37,134 +33,65 @@ pub two : {n : ℕ} {t near : List ℕ} {e v f g : ℕ} → EndOf n t e v → Ne
     → Pair n t e v f g
 two {n} {t} {near} {e} {v} {f} {g} a N inner o =
     pair-of e v f g (a .valid) (a .row) (a .touch) inner (end-node a)
-    (near-others n t near e v (a .valid) N (a .row) (a .touch) inner
+    (near-others (a .valid) N (a .row) (a .touch) inner
     ∙ sym (ap₂ (λ (x y : ℕ). x ∷ y ∷ []) (o .first) (o .second)))
 
--- ---- what lies with an inner end, at nodes that the code has found
-module _ {n : ℕ} {t : List ℕ} {e v f g x y : ℕ} (a : EndOf n t e v) (inner : n ≤ v)
-    (K : Pair n t e v f g)
-    (ex : x ≡ far t f v) (ey : y ≡ far t g v) where
-  pub union : {p q : ℕ} → p ≡ part n t f x % 2 ^ n → q ≡ part n t g y % 2 ^ n
-      → bitOr p q ≡ part n t e v % 2 ^ n
-  union hp hq =
-      ap₂ bitOr (hp ∙ ap (λ (z : ℕ). part n t f z % 2 ^ n) ex)
-      (hq ∙ ap (λ (z : ℕ). part n t g z % 2 ^ n) ey)
-      ∙ taxa-both (a .valid) (a .row) (a .touch) inner K
-
-  -- a row that lies with v is e, f or g, or lies beyond f or beyond g
-  row-where : (r : ℕ) → r < rows n → has (part n t e v) (lo t r) ≡ true
-      → (r ≡ e) ⊎ ((r ≡ f) ⊎ ((r ≡ g)
-      ⊎ ((has (part n t f (far t f v)) (lo t r) ≡ true)
-      ⊎ (has (part n t g (far t g v)) (lo t r) ≡ true))))
-  row-where r l p = go (either (eqb r e)) (either (eqb r f)) (either (eqb r g))
-    where
-      low : lo t r < nodes n
-      low = omega (arith, a .valid .order r l .0, a .valid .order r l .1)
-
-      last : (x y z : Bool) → (x || y || z) ≡ true → z ≡ false → (x ≡ true) ⊎ (y ≡ true)
-      last true y z h w = inl refl
-      last false true z h w = inr refl
-      last false false z h w = absurd (true≢false (sym h ∙ w))
-
-      go : (eqb r e ≡ true) ⊎ (eqb r e ≡ false) → (eqb r f ≡ true) ⊎ (eqb r f ≡ false)
-          → (eqb r g ≡ true) ⊎ (eqb r g ≡ false)
-          → (r ≡ e) ⊎ ((r ≡ f) ⊎ ((r ≡ g)
-          ⊎ ((has (part n t f (far t f v)) (lo t r) ≡ true)
-          ⊎ (has (part n t g (far t g v)) (lo t r) ≡ true))))
-      go (inl x) y z = inl (eqb-true r e x)
-      go (inr x) (inl y) z = inr (inl (eqb-true r f y))
-      go (inr x) (inr y) (inl z) = inr (inr (inl (eqb-true r g z)))
-      go (inr x) (inr y) (inr z) =
-          let all = node-side (a .valid) (a .row) (a .touch) inner K (lo t r) low in
-          let k = fork (a .valid) (a .row) (a .touch) inner K in
-          let away = k .only r l (eqb-false r e x) (eqb-false r f y) (eqb-false r g z) .0 in
-          inr (inr (inr (last (has (part n t f (far t f v)) (lo t r))
-          (has (part n t g (far t g v)) (lo t r)) (eqb v (lo t r)) (sym all ∙ p)
-          (ne-eqb v (lo t r) away))))
-
--- ---- what is stored
-module _ {n : ℕ} {t : List ℕ} {e v : ℕ} (a : EndOf n t e v) where
-  stored-keep : (s : List ℕ) (r : ℕ) → rows n ≤ length s → r < rows n → getD s r 0 ≡ side n t r
-      → getD (set s e (side n t e)) r 0 ≡ side n t r
-  stored-keep s r l h p = go (either (eqb r e))
-    where
-      go : (eqb r e ≡ true) ⊎ (eqb r e ≡ false) → getD (set s e (side n t e)) r 0 ≡ side n t r
-      go (inl w) = rw (eqb-true r e w) (getD-set-same s e (side n t e) 0 (omega (arith, a .row)))
-      go (inr w) = getD-set-other s e r (side n t e) 0 (eqb-false r e w) ∙ p
-
-  stored-here : (s : List ℕ) → rows n ≤ length s → getD (set s e (side n t e)) e 0 ≡ side n t e
-  stored-here s l = getD-set-same s e (side n t e) 0 (omega (arith, a .row))
-
-  pub filled-one : {s s′ : List ℕ} → v < n → rows n ≤ length s → s′ ≡ set s e (side n t e)
-      → Filled n t e v s s′
-  filled-one {s} tax l p =
-      subst (λ (x : List ℕ). Filled n t e v s x) (sym p)
-      (record {
-        len = length-set s e (side n t e);
-        keep = λ r h q. stored-keep s r l h q;
-        here = stored-here s l;
-        inside = λ r h q.
-            subst (λ (x : ℕ). getD (set s e (side n t e)) x 0 ≡ side n t x)
-            (sym (row-one a tax r h q)) (stored-here s l);
-      })
-
-  pub filled-two : {f g x y : ℕ} {s s₁ s₂ s₃ : List ℕ} → n ≤ v → Pair n t e v f g → x ≡ far t f v
-      → y ≡ far t g v
-      → rows n ≤ length s → Filled n t f x s s₁ → Filled n t g y s₁ s₂ → s₃ ≡ set s₂ e (side n t e)
-      → Filled n t e v s s₃
-  filled-two {f} {g} {x} {y} {s} {s₁} {s₂} inner K ex ey l F G p =
-      let l₂ : rows n ≤ length s₂ = omega (arith, F .len, G .len) in
-      subst (λ (z : List ℕ). Filled n t e v s z) (sym p)
-      (record {
-        len = length-set s₂ e (side n t e) ∙ G .len ∙ F .len;
-        keep = λ r h q. stored-keep s₂ r l₂ h (G .keep r h (F .keep r h q));
-        here = stored-here s₂ l₂;
-        inside = λ r h q. go l₂ r h (row-where a inner K ex ey r h q);
-      })
-    where
-      go : rows n ≤ length s₂ → (r : ℕ) → r < rows n
-          → (r ≡ e) ⊎ ((r ≡ f) ⊎ ((r ≡ g)
-          ⊎ ((has (part n t f (far t f v)) (lo t r) ≡ true)
-          ⊎ (has (part n t g (far t g v)) (lo t r) ≡ true))))
-          → getD (set s₂ e (side n t e)) r 0 ≡ side n t r
-      go l₂ r h (inl d) = subst (λ (z : ℕ). getD (set s₂ e (side n t e)) z 0 ≡ side n t z) (sym d)
-          (stored-here s₂ l₂)
-      go l₂ r h (inr (inl d)) =
-          stored-keep s₂ r l₂ h (G .keep r h
-          (subst (λ (z : ℕ). getD s₁ z 0 ≡ side n t z) (sym d) (F .here)))
-      go l₂ r h (inr (inr (inl d))) =
-          stored-keep s₂ r l₂ h (subst (λ (z : ℕ). getD s₂ z 0 ≡ side n t z) (sym d) (G .here))
-      go l₂ r h (inr (inr (inr (inl q)))) =
-          stored-keep s₂ r l₂ h (G .keep r h
-          (F .inside r h (ap (λ (z : ℕ). has (part n t f z) (lo t r)) ex ∙ q)))
-      go l₂ r h (inr (inr (inr (inr q)))) =
-          stored-keep s₂ r l₂ h (G .inside r h (ap (λ (z : ℕ). has (part n t g z) (lo t r)) ey ∙ q))
-
--- ---- from taxon 0 every row is met
-pub all-sides : {n : ℕ} {t near : List ℕ} {e v : ℕ} {s s′ : List ℕ} → Accepted n t → Near n t near
-    → e ≡ getD near (3 * 0 + 0) 0 → v ≡ far t e 0 → length s ≡ rows most → Filled n t e v s s′
-    → Sides n t s′
-all-sides {n} {t} {near} {e} {v} {s} {s′} good N ee ev room F =
-    record { room = F .len ∙ room; right = λ r h. go r h (either (eqb r e)) }
+-- ---- the taxa with the other end, from the side
+less-twice : (n s : ℕ) → less (full n) (less (full n) (s % 2 ^ n)) ≡ s % 2 ^ n
+less-twice n s = ext (less (full n) (less (full n) (s % 2 ^ n))) (s % 2 ^ n) (λ i.
+    has-less (full n) (less (full n) (s % 2 ^ n)) i
+    ∙ ap₂ (λ (p q : Bool). p && not q) (has-ones n i) (has-less (full n) (s % 2 ^ n) i
+    ∙ ap₂ (λ (p q : Bool). p && not q) (has-ones n i) (has-mod n s i))
+    ∙ bools (ltb i n) (has s i) ∙ sym (has-mod n s i))
   where
-    tax : 0 < n
-    tax = omega (arith, good .valid .big)
+    bools : (p q : Bool) → (p && not (p && not (p && q))) ≡ (p && q)
+    bools true true = refl
+    bools true false = refl
+    bools false q = refl
 
-    row : Across n t 0 e
-    row = place-0 (accepted-rowed good) N (omega (arith, good .valid .big)) ee
+-- u is the smaller end of row x, and y its side
+module _ {n : ℕ} {t : List ℕ} {v x u y : ℕ} (a : At n t x v) (h : u ≡ lo t x)
+    (hy : y ≡ side n t x) where
+  pub across-lo : u ≡ v → less (full n) y ≡ part n t x (far t x v) % 2 ^ n
+  across-lo d =
+      let E = at-end a in
+      let apart : lo t x ≡ far t x v → ⊥ = λ w.
+      joins-differ x (E .valid) (E .row) v (far t x v) (end-joins E) (sym d ∙ h ∙ w) in
+      ap (less (full n)) (hy ∙ sym (side-hi (far-end E) apart))
+      ∙ less-twice n (part n t x (far t x v))
 
-    go : (r : ℕ) → r < rows n → (eqb r e ≡ true) ⊎ (eqb r e ≡ false) → getD s′ r 0 ≡ side n t r
-    go r h (inl w) = subst (λ (x : ℕ). getD s′ x 0 ≡ side n t x) (sym (eqb-true r e w)) (F .here)
-    go r h (inr w) =
-        let low : lo t r < nodes n =
-        omega (arith, good .valid .order r h .0, good .valid .order r h .1) in
-        let at-zero : 0 ≡ lo t r → r ≡ e = λ x.
-        leaf-only 0 e (good .valid) tax (row .row) (row .at) r h
-        (joins-touch t r 0 (hi t r) (inl (sym x, refl))) in
-        let d : 0 ≡ lo t r → ⊥ = λ x. eqb-false r e w (at-zero x) in
-        F .inside r h (
-        ap (λ (x : ℕ). has (part n t e x) (lo t r)) ev
-        ∙ two-sides e 0 (far t e 0) (good .valid) (row .row) (touch-joins t e 0 (row .at))
-        (lo t r) low
-        ∙ ap not (leaf-side e 0 (good .valid) tax (row .row) (row .at) (lo t r) low
-        ∙ ne-eqb 0 (lo t r) d))
+  pub across-hi : (u ≡ v → ⊥) → y ≡ part n t x (far t x v) % 2 ^ n
+  unfolding far side
+  across-hi d = hy ∙ rw (told-other h d)
+
+-- ---- what is stored is the side
+pub noted-side : {n : ℕ} {t : List ℕ} {e v s : ℕ} → EndOf n t e v → s ≡ part n t e v % 2 ^ n
+    → noted n t e v s ≡ side n t e
+noted-side {n} {t} {e} {v} {s} A h = go (either (eqb (lo t e) v))
+  where
+    go : Either (eqb (lo t e) v) → noted n t e v s ≡ side n t e
+    go (inl w) = rw w (h ∙ side-lo A (eqb-true (lo t e) v w))
+    go (inr w) = rw w (ap (less (full n)) h ∙ side-hi A (eqb-false (lo t e) v w))
+
+-- ---- at one node the side of the row that leads on is stored: the taxa across
+-- the two rows behind are those with the node
+pub gathered-here : {n : ℕ} {t a s s′ : List ℕ} {v p q : ℕ} → Behind n t a s v
+    → p ≡ part n t (first a v) (far t (first a v) v) % 2 ^ n
+    → q ≡ part n t (second a v) (far t (second a v) v) % 2 ^ n
+    → s′ ≡ set s (up a v) (noted n t (up a v) v (bitOr p q))
+    → s′ ≡ set s (up a v) (side n t (up a v))
+gathered-here {n} {t} {a} {s} {v = v} {p} {q} B hp hq h =
+    h ∙ ap (set s (up a v)) (noted-side (record { valid = vt; row = m .x-lt; touch = m .x-at })
+    (go (meet-pair vt (B .inner) m)))
+  where
+    m : Meet n t v (up a v) (first a v) (second a v)
+    m = B .meet
+
+    vt : Valid n t
+    vt = B .good .valid
+
+    go : Pair n t (up a v) v (first a v) (second a v)
+        ⊎ Pair n t (up a v) v (second a v) (first a v)
+        → bitOr p q ≡ part n t (up a v) v % 2 ^ n
+    go (inl P) = ap₂ bitOr hp hq ∙ taxa-both vt (m .x-lt) (m .x-at) (B .inner) P
+    go (inr P) = or-comm p q ∙ ap₂ bitOr hq hp ∙ taxa-both vt (m .x-lt) (m .x-at) (B .inner) P

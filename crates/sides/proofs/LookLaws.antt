@@ -14,8 +14,9 @@ use Rattle.table.specs.Between.{rowSaid, Rowed}
 use Rattle.table.specs.declared.Checked.{Checked}
 use Rattle.table.proofs.Stages.{said-rowed}
 use Rattle.calls.specs.declared.Refusal.{Refusal}
-use Rattle.node_rows.specs.Between.{Near}
-use Rattle.sides.specs.Between.{Sided, Looked, Reached, Found}
+use Rattle.inward.specs.Between.{Inward, Arranged}
+use Rattle.inward.proofs.Whole.{inward-near}
+use Rattle.sides.specs.Between.{Sides, Sided, Looked, Arranges, Sighted, Found}
 
 module _ (n : ℕ) (t : List ℕ) where
   past-4 : rowSaid n t ≡ gives tt → treeSaid n t ≡ judged (reachChecks n t) (tt {0})
@@ -36,8 +37,7 @@ module _ (n : ℕ) (t : List ℕ) where
   not-tree : {X : Type 0} (k : Refusal) → refuses k ≡ treeSaid n t → treeSaid n t ≡ gives tt → X
   not-tree k h g = absurd (let z : _≡_ {A = ℕ} 0 1 = cc in omega arith)
 
--- ---- what is found, at each return of the look; c is what the checks 1 to 4
--- answer
+-- ---- what is found; c is what the checks 1 to 4 answer
 rows-right : (n : ℕ) (t : List ℕ) {c : Checked} → checkSays c ≡ rowSaid n t → c ≡ Checked.Tree
     → rowSaid n t ≡ gives tt
 rows-right n t e h = sym e ∙ ap checkSays h
@@ -46,28 +46,53 @@ pub found-rowed : {n : ℕ} {t : List ℕ} {c : Checked} → checkSays c ≡ row
     → c ≡ Checked.Tree → Rowed n t
 found-rowed {n} {t} e h = said-rowed n t (rows-right n t e h)
 
+-- at each return of the search for an order
 module _ {n : ℕ} {t : List ℕ} {c : Checked} (rows-say : checkSays c ≡ rowSaid n t)
-    {near s : List ℕ} where
-  pub found-rows : {k : Refusal} → c ≡ Checked.Refused k → Found n t (Checked.Refused k) near s
-  found-rows {k} h =
+    {a : List ℕ} where
+  pub arranges-rows : {k : Refusal} → c ≡ Checked.Refused k → Arranges n t (Checked.Refused k) a
+  arranges-rows {k} h =
       let said : rowSaid n t ≡ refuses k = sym rows-say ∙ ap checkSays h in
       let e : refuses k ≡ treeSaid n t =
       sym (refuses-more (countChecks n ++ rowChecks n t) (reachChecks n t) tt tt k said) in
-      record { says = e; near = not-tree n t k e; sides = not-tree n t k e }
+      record { says = e; inward = not-tree n t k e }
 
-  module _ (h : c ≡ Checked.Tree) {b : Bool} (R : Reached n t b s) where
-    pub found-tree : Near n t near → b ≡ true → Found n t Checked.Tree near s
-    found-tree N w =
+  module _ (h : c ≡ Checked.Tree) {b : Bool} (A : Arranged n t b a) where
+    pub arranges-tree : b ≡ true → Arranges n t Checked.Tree a
+    arranges-tree w =
         record {
-          says = is-tree n t (rows-right n t rows-say h) (sym (R .all) ∙ w);
-          near = λ g. N;
-          sides = λ g. R .sides (pass-accepted n t (gives-pass (treeChecks n t) tt tt g));
+          says = is-tree n t (rows-right n t rows-say h) (sym (A .all) ∙ w);
+          inward = λ g. A .inward w;
         }
 
-    pub found-5 : b ≡ false → Found n t (Checked.Refused Refusal.Unreached) near s
-    found-5 w =
-        let e = is-5 n t (rows-right n t rows-say h) (sym (R .all) ∙ w) in
-        record { says = e; near = not-tree n t _ e; sides = not-tree n t _ e }
+    pub arranges-5 : b ≡ false → Arranges n t (Checked.Refused Refusal.Unreached) a
+    arranges-5 w =
+        let e = is-5 n t (rows-right n t rows-say h) (sym (A .all) ∙ w) in
+        record { says = e; inward = not-tree n t _ e }
+
+-- at each return of the look
+module _ {n : ℕ} {t : List ℕ} {c : Checked} {a : List ℕ} (R : Arranges n t c a) where
+  pub found-refusal : {s : List ℕ} {k : Refusal} → c ≡ Checked.Refused k
+      → Found n t (Checked.Refused k) a s
+  found-refusal {k = k} h =
+      let e : refuses k ≡ treeSaid n t = ap checkSays (sym h) ∙ R .says in
+      record { sighted = record { says = e; sides = not-tree n t k e }; near = not-tree n t k e }
+
+  module _ (h : c ≡ Checked.Tree) where
+    tree-said : gives tt ≡ treeSaid n t
+    tree-said = ap checkSays (sym h) ∙ R .says
+
+    pub tree-inward : Inward n t a
+    tree-inward = R .inward (sym tree-said)
+
+    pub tree-accepted : Accepted n t
+    tree-accepted = pass-accepted n t (gives-pass (treeChecks n t) tt tt (sym tree-said))
+
+    pub found-tree : {s : List ℕ} → Sides n t s → Found n t Checked.Tree a s
+    found-tree S =
+        record {
+          sighted = record { says = tree-said; sides = λ g. S };
+          near = λ g. inward-near tree-inward;
+        }
 
 -- a tree's table has its rows
 pub accepted-rowed : {n : ℕ} {t : List ℕ} → Accepted n t → Rowed n t
@@ -83,20 +108,30 @@ accepted-rowed a = record {
 }
 
 -- what an answer of the check tells
+module _ {n : ℕ} {t : List ℕ} {c : Checked} {s : List ℕ} (f : Sighted n t c s) where
+  pub sighted-given : treeSaid n t ≡ gives tt → Sided n t s
+  sighted-given g = record {
+    good = pass-accepted n t (gives-pass (treeChecks n t) tt tt g);
+    sides = f .sides g;
+  }
+
+  pub sighted-sided : c ≡ Checked.Tree → Sided n t s
+  sighted-sided e = sighted-given (sym (f .says) ∙ ap checkSays e)
+
+  pub sighted-refused : {r : Refusal} → c ≡ Checked.Refused r → treeSaid n t ≡ refuses r
+  sighted-refused e = sym (f .says) ∙ ap checkSays e
+
 module _ {n : ℕ} {t : List ℕ} {c : Checked} {near s : List ℕ} (f : Found n t c near s) where
   pub found-given : treeSaid n t ≡ gives tt → Looked n t near s
   found-given g =
-      record {
-        good = pass-accepted n t (gives-pass (treeChecks n t) tt tt g);
-        rows = f .near g;
-        sides = f .sides g;
-      }
+      let S = sighted-given (f .sighted) g in
+      record { good = S .good; rows = f .near g; sides = S .sides }
 
   pub found-looked : c ≡ Checked.Tree → Looked n t near s
-  found-looked e = found-given (sym (f .says) ∙ ap checkSays e)
+  found-looked e = found-given (sym (f .sighted .says) ∙ ap checkSays e)
 
   pub found-refused : {r : Refusal} → c ≡ Checked.Refused r → treeSaid n t ≡ refuses r
-  found-refused e = sym (f .says) ∙ ap checkSays e
+  found-refused = sighted-refused (f .sighted)
 
 -- a tree that was looked at has its sides
 pub looked-sided : {n : ℕ} {t near s : List ℕ} → Looked n t near s → Sided n t s

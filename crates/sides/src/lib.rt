@@ -1,22 +1,23 @@
-// The check of a tree, and with it the side of every row: one traversal from
-// taxon 0 finds both.
-ghost use Prim.Native.Nat.{_+_, _*_, _<_, _≤_};
+// The check of a tree, and the side of every row: both from an order of the
+// inner nodes from the leaves inward.
+ghost use Prim.Native.Nat.{_%_, _^_, _<_, _≤_};
 ghost use mathlib.Core.Path.{_≡_};
 ghost use lib.ListN.{length, set};
 ghost use Rattle.taxa.specs.Most.{most};
-ghost use Rattle.tree.specs.Tree.{rows, nodes, every};
-ghost use Rattle.table.specs.Between.{HasRow, Rowed};
-ghost use Rattle.node_rows.specs.Between.{noRows, Near};
-ghost use Rattle.sides.specs.Between.{mark, noted, Walks, Walked, Reached, Found};
+ghost use Rattle.tree.specs.Tree.{rows, far, part};
+ghost use Rattle.tree.specs.Splits.{side};
+ghost use Rattle.tree.specs.Refusals.{Accepted};
+ghost use Rattle.table.specs.Between.{HasRow};
+ghost use Rattle.node_rows.specs.Between.{noRows, up};
+ghost use Rattle.inward.specs.Between.{Inward};
+ghost use Rattle.sides.specs.Between.{At, Sides, AtTaxa, Behind, Arranges};
+ghost use Rattle.sides.specs.Between.{noted, Found, Sighted};
 ghost use Rattle.sides.specs.Promises.{Checks};
 use calls::Refusal;
 use table::Checked;
 
 // The most rows that a tree has.
 pub const ROWS: usize = 125;
-
-// The most nodes that a tree has.
-const NODES: usize = 126;
 
 // Stores the side of row e, s being the taxa with its end v.
 fn note(n: usize, t: &[u8], sides: &mut [u64; ROWS], e: usize, v: usize, s: u64)
@@ -31,73 +32,81 @@ fn note(n: usize, t: &[u8], sides: &mut [u64; ROWS], e: usize, v: usize, s: u64)
     sides[e] = taxa::less(all, s);
 }
 
-// The taxa with row e's end v. Every node that can be reached there over nodes
-// that are not marked yet is marked, and the sides of the rows there are
-// stored.
-fn walk(
-    n: usize,
-    t: &[u8],
-    near: &[u8; node_rows::PLACES],
-    marks: &mut [u8; NODES],
-    sides: &mut [u64; ROWS],
-    e: usize,
-    v: usize,
-) -> u64
-    requires { ⌜ Walks n (now t) (now near) (now marks) (now sides) e v ⌝ }
-    ensures { λ s.
-        let ms = now (marks .exit) in
-        let ss = now (sides .exit) in
-        ⌜ Walked n (now (t .entry)) e v (now (marks .entry)) ms (now (sides .entry)) ss s ⌝ }
+// The taxa with the end of row x that is not v, s being its side.
+pub fn across(n: usize, t: &[u8], x: usize, v: usize, s: u64) -> u64
+    requires { let t = now t in ⌜ (At n t x v) × (s ≡ side n t x) ⌝ }
+    ensures { λ r. let t = now (t .entry) in ⌜ r ≡ part n t x (far t x v) % 2 ^ n ⌝ }
 {
-    if marks[v] != 0 {
-        return 0;
+    if table::lo(t, x) == v {
+        let all = taxa::full(n);
+        return taxa::less(all, s);
     }
-    marks[v] = 1;
-    if v < n {
-        let s = taxa::only(v);
-        note(n, t, sides, e, v, s);
-        return s;
-    }
-    let o = node_rows::others(near, e, v);
-    let f = o.f;
-    let g = o.g;
-    let a = table::far(t, f, v);
-    let p = walk(n, t, near, marks, sides, f, a);
-    let b = table::far(t, g, v);
-    let q = walk(n, t, near, marks, sides, g, b);
-    let s = p | q;
-    note(n, t, sides, e, v, s);
     s
 }
 
-// Whether each of the nodes is marked.
-fn all_marked(n: usize, marks: &[u8; NODES]) -> bool
-    requires { ⌜ (4 ≤ n) × (n ≤ most) ⌝ }
-    ensures { λ b. ⌜ b ≡ every (mark (now (marks .entry))) (nodes n) ⌝ }
+// Stores the side of each row at a taxon.
+fn taxa_sides(n: usize, t: &[u8], s: &mut [u64; ROWS])
+    requires { ⌜ (Accepted n (now t)) × (length (now s) ≡ rows most) ⌝ }
+    ensures { λ _. ⌜ AtTaxa n (now (t .entry)) (now (s .exit)) (rows n) ⌝ }
 {
-    let m = 2 * n - 2;
-    let mut bad: u8 = 0;
-    let mut v: usize = 0;
-    while v < m {
-        bad |= (marks[v] == 0) as u8;
-        v += 1;
+    let m = 2 * n - 3;
+    let mut i: usize = 0;
+    while i < m {
+        let v = table::lo(t, i);
+        if v < n {
+            s[i] = taxa::only(v);
+        }
+        i += 1;
     }
-    bad == 0
 }
 
-// Whether every node can be reached from node 0. Where it can, the side of
-// every row is stored.
-fn all_reached(n: usize, t: &[u8], near: &[u8; node_rows::PLACES], sides: &mut [u64; ROWS]) -> bool
-    requires { let t = now t in
-        ⌜ (Rowed n t) × (Near n t (now near)) × (length (now sides) ≡ rows most) ⌝ }
-    ensures { λ b. ⌜ Reached n (now (t .entry)) b (now (sides .exit)) ⌝ }
+// Stores the side of the row that leads on from the inner node v, from those
+// of the two rows behind it.
+fn gather_at(n: usize, t: &[u8], near: &[u8; node_rows::PLACES], s: &mut [u64; ROWS], v: usize)
+    requires { ⌜ Behind n (now t) (now near) (now s) v ⌝ }
+    ensures { λ _.
+        let r = up (now (near .entry)) v in
+        ⌜ now (s .exit) ≡ set (now (s .entry)) r (side n (now (t .entry)) r) ⌝ }
 {
-    let mut marks = [0u8; NODES];
-    marks[0] = 1;
-    let e = node_rows::row_at(near, 0, 0);
-    let v = table::far(t, e, 0);
-    walk(n, t, near, &mut marks, sides, e, v);
-    all_marked(n, &marks)
+    let p = 4 * v;
+    let r = near[p] as usize;
+    let f = near[p + 1] as usize;
+    let g = near[p + 2] as usize;
+    let x = across(n, t, f, v, s[f]) | across(n, t, g, v, s[g]);
+    note(n, t, s, r, v, x);
+}
+
+// Stores the side of every row, node by node in the order; those of the rows
+// at a taxon are stored before.
+fn gather(n: usize, t: &[u8], near: &[u8; node_rows::PLACES], s: &mut [u64; ROWS])
+    requires { let t = now t in
+        ⌜ (Accepted n t) × (Inward n t (now near)) × (AtTaxa n t (now s) (rows n)) ⌝ }
+    ensures { λ _. ⌜ Sides n (now (t .entry)) (now (s .exit)) ⌝ }
+{
+    let m = n - 2;
+    let mut j: usize = 0;
+    while j < m {
+        let v = near[4 * j + 3] as usize;
+        gather_at(n, t, near, s, v);
+        j += 1;
+    }
+}
+
+// The check of a tree; an order of its inner nodes is left in the lent array.
+fn arrange(n: usize, t: &[u8], near: &mut [u8; node_rows::PLACES]) -> Checked
+    requires { ⌜ now near ≡ noRows ⌝ }
+    ensures { λ r. ⌜ Arranges n (now (t .entry)) r (now (near .exit)) ⌝ }
+{
+    let answer = table::check_rows(n, t);
+    match answer {
+        Checked::Refused(r) => Checked::Refused(r),
+        Checked::Tree => {
+            if inward::order(n, t, near) {
+                return Checked::Tree;
+            }
+            Checked::Refused(Refusal::Unreached)
+        }
+    }
 }
 
 // The check of a tree; the rows at each node and the side of every row of one
@@ -111,17 +120,24 @@ pub fn look(
     requires { ⌜ (now near ≡ noRows) × (length (now sides) ≡ rows most) ⌝ }
     ensures { λ r. ⌜ Found n (now (t .entry)) r (now (near .exit)) (now (sides .exit)) ⌝ }
 {
-    let answer = table::check_rows(n, t);
+    let answer = arrange(n, t, near);
     match answer {
         Checked::Refused(r) => Checked::Refused(r),
         Checked::Tree => {
-            node_rows::hook_rows(n, t, near);
-            if all_reached(n, t, near, sides) {
-                return Checked::Tree;
-            }
-            Checked::Refused(Refusal::Unreached)
+            taxa_sides(n, t, sides);
+            gather(n, t, near, sides);
+            Checked::Tree
         }
     }
+}
+
+// The check of a tree; the side of every row of one is left in the lent array.
+pub fn find_sides(n: usize, t: &[u8], sides: &mut [u64; ROWS]) -> Checked
+    requires { ⌜ length (now sides) ≡ rows most ⌝ }
+    ensures { λ r. ⌜ Sighted n (now (t .entry)) r (now (sides .exit)) ⌝ }
+{
+    let mut near = [node_rows::FREE; node_rows::PLACES];
+    look(n, t, &mut near, sides)
 }
 
 // The check of a tree: refusals 1 to 5.
@@ -129,6 +145,5 @@ pub fn check_tree(n: usize, t: &[u8]) -> Checked
     ensures { λ r. ⌜ Checks n (now (t .entry)) r ⌝ }
 {
     let mut near = [node_rows::FREE; node_rows::PLACES];
-    let mut sides = [0u64; ROWS];
-    look(n, t, &mut near, &mut sides)
+    arrange(n, t, &mut near)
 }

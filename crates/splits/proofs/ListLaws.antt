@@ -2,7 +2,7 @@
 use mathlib.Core.Path.{_≡_, sym, ap, _∙_, subst}
 use mathlib.Core.Bool.{Bool, true, false}
 use mathlib.Core.List.{List, [], _∷_}
-use Prim.Native.Nat.{ℕ, zero, suc, _^_, _≤_}
+use Prim.Native.Nat.{ℕ, zero, suc, _^_, _≤_, _<_}
 use native.Mathlib.Nat.{le-refl}
 use native.Mathlib.Omega.{arith}
 use lib.Dec.{eqb, ltb}
@@ -22,8 +22,7 @@ use Rattle.tree.specs.Splits.{side, meets, flips, split, splitsTo, splitsBy, sp
 use Rattle.tree.specs.Splits.{distBy, missing}
 use Rattle.tree.proofs.SplitLaws.{splits-asc}
 use Rattle.tree.proofs.Members.{members-count}
-use Rattle.sides.specs.Between.{Sided}
-use Rattle.splits.specs.Between.{SplitList, listsApart}
+use Rattle.splits.specs.Between.{SplitList, listsApart, Listed}
 use Rattle.splits.specs.Promises.{treesApart}
 
 insert-length : (x : ℕ) (l : List ℕ) → length (insert x l) ≤ suc (length l)
@@ -61,27 +60,31 @@ splits-to-few n t y (suc k) = go (splits-to-few n t y k) (meets y (side n t k))
     go ih true = omega (arith, insert-length (split n y (side n t k)) (splitsTo flips n t y k))
     go ih false = omega arith
 
-module _ {n : ℕ} {t s : List ℕ} (S : Sided n t s) (y : ℕ) where
+module _ {n : ℕ} {t : List ℕ} (good : Accepted n t) (y : ℕ) where
   splits-few : length (splits n t y) ≤ rows most
   unfolding splitsBy
-  splits-few = omega (arith, splits-to-few n t y (rows n), S .good .few)
+  splits-few = omega (arith, splits-to-few n t y (rows n), good .few)
 
   -- an array of as many numbers as a tree has rows has room for them
   pub splits-room : length (splits n t y) ≤ length {A = ℕ} (replicate (rows most) 0)
   splits-room = omega (arith, splits-few, length-replicate {A = ℕ} (rows most) 0)
 
-  -- what is written is listed as a tree's splits are
-  pub written-list : {m : List ℕ} {r : ℕ} {m′ : List ℕ} → Wrote length (splits n t y) m r m′
-      → SplitList (take r m′)
-  written-list w = record {
-    ascends = subst Asc (sym (wrote-take w)) (splits-asc n t y);
-    few = omega (arith, ap length (wrote-take w), splits-few);
+-- ---- the list of a tree's splits
+module _ {n : ℕ} {t : List ℕ} {y : ℕ} where
+  -- it is what is written at the start of a lent list
+  pub written-listed : Accepted n t → y < 2 ^ n → {m : List ℕ} {r : ℕ} {m′ : List ℕ}
+      → Wrote length (splits n t y) m r m′ → Listed n t y (take r m′)
+  written-listed good bound w = record { good = good; bound = bound; list = wrote-take w }
+
+  -- it ascends, and is no longer than a tree's rows
+  pub listed-list : {a : List ℕ} → Listed n t y a → SplitList a
+  listed-list l = record {
+    ascends = subst Asc (sym (l .list)) (splits-asc n t y);
+    few = omega (arith, ap length (l .list), splits-few (l .good) y);
   }
 
--- the comparison of what is written at the start of two lists is that of the
--- two trees
-pub compared-lists : (n : ℕ) (t u : List ℕ) (y : ℕ) {a b : List ℕ} → a ≡ splits n t y
-    → b ≡ splits n u y
+-- the comparison of the lists of two trees is that of the trees
+pub listed-apart : {n : ℕ} {t u : List ℕ} {y : ℕ} {a b : List ℕ} → Listed n t y a → Listed n u y b
     → _≡_ {A = Said (ℕ × ℕ)} (gives (listsApart a b)) (gives (treesApart n t u y))
 unfolding distBy missing
-compared-lists n t u y p q = rw (p, q)
+listed-apart k l = rw (k .list, l .list)

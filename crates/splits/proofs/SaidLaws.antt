@@ -7,26 +7,27 @@ use Prim.Native.Nat.{ℕ, _^_, _≤_, _<_}
 use native.Mathlib.Omega.{arith}
 use lib.Dec.{ltb}
 use lib.ListN.{length}
-use borrow.Author.Tests.{le-leb, lt-leb}
+use borrow.Author.Tests.{le-leb, lt-leb, lt-ltb, le-ltb}
 use Rattle.calls.specs.declared.Refusal.{Refusal}
-use Rattle.calls.specs.Calls.{Check, gives, judged, Pass}
+use Rattle.calls.specs.Calls.{Check, gives, refuses, judged, Pass}
 use Rattle.calls.proofs.CheckLaws.{judged-pass, judged-next, judged-fail, refuses-more}
 use Rattle.calls.proofs.CallLaws.{answers, call-refuses, call-gives}
 use Rattle.tree.specs.Splits.{splits}
 use Rattle.tree.specs.Refusals.{countChecks, tableChecks, treeChecks, partitionChecks, roomChecks}
-use Rattle.tree.specs.Refusals.{Accepted}
-use Rattle.tree.proofs.RefusalLaws.{accepted-pass}
+use Rattle.tree.specs.Refusals.{treeSaid, Accepted}
+use Rattle.tree.proofs.RefusalLaws.{accepted-pass, accepted-iff}
 use Rattle.calls.specs.Between.{Wrote}
 use Rattle.table.specs.declared.Checked.{Checked}
-use Rattle.sides.specs.Between.{Found}
-use Rattle.sides.proofs.LookLaws.{found-refused}
+use Rattle.sides.specs.Between.{Sighted}
+use Rattle.sides.proofs.LookLaws.{sighted-refused}
 use Rattle.splits.specs.declared.Induced.{Induced}
 use Rattle.splits.specs.declared.Induced.the-variants as induced
 use Rattle.splits.specs.declared.Compared.{Compared}
 use Rattle.splits.specs.declared.Compared.the-variants as compared
 use Rattle.splits.specs.Promises.{inducedSaid, inducedSays, Induces}
 use Rattle.splits.specs.Promises.{treesApart, comparedSaid, compareSays, Compares}
-use Rattle.splits.proofs.ListLaws.{Within}
+use Rattle.splits.specs.Between.{listsApart, Listed}
+use Rattle.splits.proofs.ListLaws.{Within, listed-apart}
 
 -- ---- the induced splits
 module _ (n : ℕ) (t : List ℕ) (y : ℕ) (out : List ℕ) where
@@ -44,13 +45,14 @@ module _ (n : ℕ) (t : List ℕ) (y : ℕ) (out : List ℕ) where
   past-6 w = past-5 (w .good)
       ∙ judged-next (ltb y (2 ^ n)) Refusal.Partition room l (w .bound)
 
-module _ {n : ℕ} {t : List ℕ} (y : ℕ) {out : List ℕ} where
-  pub induces-tree : {c : Checked} {r : Refusal} {near s : List ℕ} → Found n t c near s
-      → c ≡ Checked.Refused r → Induces n t y out (induced.Refused r) out
-  induces-tree {r = r} f e = call-refuses r
-      (refuses-more (treeChecks n t) (partitionChecks n y ++ room n t y out) tt (splits n t y) r
-      (found-refused f e))
+pub induces-tree : {n : ℕ} {t : List ℕ} (y : ℕ) {out : List ℕ} {c : Checked} {r : Refusal}
+    {s : List ℕ} → Sighted n t c s → c ≡ Checked.Refused r
+    → Induces n t y out (induced.Refused r) out
+induces-tree {n} {t} y {out} {r = r} f e = call-refuses r
+    (refuses-more (treeChecks n t) (partitionChecks n y ++ room n t y out) tt (splits n t y) r
+    (sighted-refused f e))
 
+module _ {n : ℕ} {t : List ℕ} (y : ℕ) {out : List ℕ} where
   pub induces-6 : Accepted n t → ltb y (2 ^ n) ≡ false
       → Induces n t y out (induced.Refused Refusal.Partition) out
   induces-6 good h =
@@ -91,33 +93,34 @@ module _ (n : ℕ) (t u : List ℕ) (y : ℕ) where
       ∙ judged-pass (tableChecks n u) (partitionChecks n y) both (accepted-pass n u good′ .1)
 
 pub compares-first : {n : ℕ} {t : List ℕ} (u : List ℕ) (y : ℕ) {c : Checked} {r : Refusal}
-    {near s : List ℕ} → Found n t c near s → c ≡ Checked.Refused r
+    {s : List ℕ} → Sighted n t c s → c ≡ Checked.Refused r
     → Compares n t u y (compared.Refused r)
 compares-first {n} {t} u y {r = r} f e =
     answers (sym (refuses-more (treeChecks n t) (tableChecks n u ++ partitionChecks n y) tt
-    (both n t u y) r (found-refused f e)))
+    (both n t u y) r (sighted-refused f e)))
 
-module _ {n : ℕ} {t u : List ℕ} (y : ℕ) (good : Accepted n t) where
+module _ {n : ℕ} {t : List ℕ} (u : List ℕ) (y : ℕ) (good : Accepted n t) where
   -- the count n belongs to both trees
-  pub compares-second : {c : Checked} {r : Refusal} {near s : List ℕ} → Found n u c near s
-      → c ≡ Checked.Refused r → Compares n t u y (compared.Refused r)
-  compares-second {r = r} f e =
+  pub compares-second : {r : Refusal} → treeSaid n u ≡ refuses r
+      → Compares n t u y (compared.Refused r)
+  compares-second {r} e =
       let count : Pass (countChecks n) = (accepted-pass n t good .0, tt) in
-      let w = sym (judged-pass (countChecks n) (tableChecks n u) tt count) ∙ found-refused f e in
+      let w = sym (judged-pass (countChecks n) (tableChecks n u) tt count) ∙ e in
       answers (sym (past-first n t u y good
       ∙ refuses-more (tableChecks n u) (partitionChecks n y) (tt {0}) (both n t u y) r w))
 
-  pub compares-6 : Accepted n u → ltb y (2 ^ n) ≡ false
+  pub compares-6 : treeSaid n u ≡ gives tt → 2 ^ n ≤ y
       → Compares n t u y (compared.Refused Refusal.Partition)
-  compares-6 good′ h = answers (sym (past-second n t u y good good′
-      ∙ judged-fail (ltb y (2 ^ n)) Refusal.Partition [] (both n t u y) h))
+  compares-6 e h = answers (sym (past-second n t u y good (accepted-iff n u .0 e)
+      ∙ judged-fail (ltb y (2 ^ n)) Refusal.Partition [] (both n t u y) (le-ltb y (2 ^ n) h)))
 
-pub compares-both : {n : ℕ} {t u : List ℕ} {y : ℕ} → Within n t y → Accepted n u → (r : Compared)
-    → compareSays r ≡ gives (treesApart n t u y) → Compares n t u y r
+pub compares-lists : {n : ℕ} {t u : List ℕ} {y : ℕ} {a b : List ℕ} → Listed n t y a
+    → Listed n u y b → (r : Compared) → compareSays r ≡ gives (listsApart a b) → Compares n t u y r
 unfolding judged
-compares-both {n} {t} {u} {y} w good r e =
-    answers (e ∙ sym (past-second n t u y (w .good) good
-    ∙ judged-next (ltb y (2 ^ n)) Refusal.Partition [] (both n t u y) (w .bound)))
+compares-lists {n} {t} {u} {y} k l r e =
+    answers (e ∙ listed-apart k l ∙ sym (past-second n t u y (k .good) (l .good)
+    ∙ judged-next (ltb y (2 ^ n)) Refusal.Partition [] (both n t u y)
+    (lt-ltb y (2 ^ n) (k .bound))))
 
 -- ---- an answer is settled by what it says
 pub induced-one : (a b : Induced) → inducedSays a ≡ inducedSays b → a ≡ b

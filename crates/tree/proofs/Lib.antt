@@ -8,7 +8,6 @@ pub mod SideWritten
 pub mod SplitLaws
 pub mod Monotone
 pub mod RowCounts
-pub mod RowsAt
 pub mod Forks
 pub mod Ends
 pub mod RefusalLaws

@@ -5,7 +5,6 @@ use mathlib.Core.Bool.{Bool, true, false, not, _&&_, _||_, true≢false, and-tru
 use mathlib.Core.List.{List, [], _∷_, _++_, head-eq-of-cons-eq}
 use Prim.Native.Nat.{ℕ, zero, suc, _+_, _≤_, _<_}
 use native.Mathlib.Nat.{le-refl}
-use native.Mathlib.Decide.{le-ind}
 use native.Mathlib.Omega.{arith}
 use lib.Dec.{eqb}
 use lib.Arith.{lt-of-le-ne}
@@ -45,6 +44,12 @@ count-same P Q (suc k) h = ap₂ (λ (b : Bool) (n : ℕ). tally b + n) (h k (le
 pub but-other : (P : ℕ → Bool) (e r : ℕ) → (r ≡ e → ⊥) → but P e r ≡ P r
 but-other P e r d = ap (λ (b : Bool). P r && not b) (ne-eqb r e d) ∙ and-true (P r)
 
+pub but-true : (P : ℕ → Bool) (e r : ℕ) → but P e r ≡ true → (P r ≡ true) × (r ≡ e → ⊥)
+but-true P e r h = (
+  and-left (P r) (not (eqb r e)) h,
+  eqb-false r e (not-true (eqb r e) (and-right (P r) (not (eqb r e)) h)),
+)
+
 pub count-drop : (P : ℕ → Bool) (e k : ℕ) → P e ≡ true → e < k → count P k ≡ suc (count (but P e) k)
 unfolding count
 count-drop P e zero p h = absurd (omega arith)
@@ -75,42 +80,21 @@ count-find P (suc k) h = go (count-find P k) (P k) refl h
 pub count-none : (P : ℕ → Bool) (k : ℕ) → count P k ≡ 0 → (r : ℕ) → r < k → P r ≡ true → ⊥
 count-none P k e r h p = omega (arith, count-drop P r k p h)
 
--- of three rows that pass, with two of them given, the third, and that there
--- is no other
-pub third : (P : ℕ → Bool) (m e x : ℕ) → count P m ≡ 3 → e < m → x < m → (e ≡ x → ⊥) → P e ≡ true
-    → P x ≡ true
-    → (f : ℕ) × (f < m) × (P f ≡ true) × (f ≡ e → ⊥) × (f ≡ x → ⊥)
-    × ((r : ℕ) → r < m → (r ≡ e → ⊥) → (r ≡ x → ⊥) → (r ≡ f → ⊥) → P r ≡ true → ⊥)
-third P m e x three he hx d pe px =
-    let P₁ = but P e in
-    let P₂ = but P₁ x in
-    let px₁ : P₁ x ≡ true = but-other P e x (λ w. d (sym w)) ∙ px in
-    let two : count P₁ m ≡ 2 = omega (arith, count-drop P e m pe he) in
-    let one : count P₂ m ≡ 1 = omega (arith, count-drop P₁ x m px₁ hx) in
-    let w = count-find P₂ m (omega arith) in
-    let zero : count (but P₂ (w .0)) m ≡ 0 = omega (arith, count-drop P₂ (w .0) m (w .2) (w .1)) in
-    let pf₁ : P₁ (w .0) ≡ true = and-left (P₁ (w .0)) (not (eqb (w .0) x)) (w .2) in (
-      w .0,
-      w .1,
-      and-left (P (w .0)) (not (eqb (w .0) e)) pf₁,
-      eqb-false (w .0) e (not-true (eqb (w .0) e) (and-right (P (w .0)) (not (eqb (w .0) e)) pf₁)),
-      eqb-false (w .0) x (not-true (eqb (w .0) x)
-          (and-right (P₁ (w .0)) (not (eqb (w .0) x)) (w .2))),
-      λ r l a b c p. count-none (but P₂ (w .0)) m zero r l
-          (but-other P₂ (w .0) r c ∙ but-other P₁ x r b ∙ but-other P e r a ∙ p),
-    )
-
-pub count-step : (P : ℕ → Bool) (k : ℕ) → count P k ≤ count P (suc k)
+pub count-zero : (P : ℕ → Bool) (k : ℕ) → ((r : ℕ) → r < k → P r ≡ false) → count P k ≡ 0
 unfolding count
-count-step P k = omega arith
+count-zero P zero h = refl
+count-zero P (suc k) h =
+    rw (h k (le-refl (suc k)), count-zero P k (λ r l. h r (omega arith)))
 
-pub count-mono : (P : ℕ → Bool) (j k : ℕ) → j ≤ k → count P j ≤ count P k
-count-mono P j k h = le-ind (λ (k : ℕ). count P j ≤ count P k) (le-refl (count P j))
-    (λ m l ih. omega (arith, ih, count-step P m)) k h
-
-pub count-yes : (P : ℕ → Bool) (k : ℕ) → P k ≡ true → count P (suc k) ≡ suc (count P k)
-unfolding count
-count-yes P k h = rw h (omega arith)
+-- where one row passes it is the only one
+pub count-one : (P : ℕ → Bool) (m e r : ℕ) → count P m ≡ 1 → e < m → P e ≡ true → r < m
+    → P r ≡ true → r ≡ e
+count-one P m e r one le pe lr pr = go (either (eqb r e))
+  where
+    go : (eqb r e ≡ true) ⊎ (eqb r e ≡ false) → r ≡ e
+    go (inl q) = eqb-true r e q
+    go (inr q) = absurd (count-none (but P e) m (omega (arith, count-drop P e m pe le)) r lr
+        (but-other P e r (eqb-false r e q) ∙ pr))
 
 -- ---- the list of the rows at p other than a
 module _ (t : List ℕ) (a p : ℕ) where
@@ -198,10 +182,10 @@ pair {n} {t} a p v ha ta ip lp =
         fg = w .2;
         f-lt = omega (arith, w .2, w .3);
         g-lt = w .3;
-        f-p = and-left (P f) (not (eqb f a)) (w .4);
-        g-p = and-left (P g) (not (eqb g a)) (w .5);
-        fa = eqb-false f a (not-true (eqb f a) (and-right (P f) (not (eqb f a)) (w .4)));
-        ga = eqb-false g a (not-true (eqb g a) (and-right (P g) (not (eqb g a)) (w .5)));
+        f-p = but-true P a f (w .4) .0;
+        g-p = but-true P a g (w .5) .0;
+        fa = but-true P a f (w .4) .1;
+        ga = but-true P a g (w .5) .1;
         list = w .6;
         only = λ r l ra rf rg h. count-none (but (but (but P a) f) g) (rows n) none r l
             (but-other (but (but P a) f) g r rg ∙ but-other (but P a) f r rf ∙ but-other P a r ra
@@ -212,17 +196,8 @@ pair {n} {t} a p v ha ta ip lp =
 -- ---- a taxon's row is its only one
 pub leaf-only : {n : ℕ} {t : List ℕ} (v e : ℕ) → Valid n t → v < n → e < rows n
     → touches t e v ≡ true → (r : ℕ) → r < rows n → touches t r v ≡ true → r ≡ e
-leaf-only {n} {t} v e vt lv le te r lr tr = go (either (eqb r e))
-  where
-    P : ℕ → Bool
-    P j = touches t j v
-
-    go : (eqb r e ≡ true) ⊎ (eqb r e ≡ false) → r ≡ e
-    go (inl q) = eqb-true r e q
-    go (inr q) =
-        absurd (count-none (but P e) (rows n)
-        (omega (arith, count-drop P e (rows n) te le, vt .leaf v lv)) r lr
-        (but-other P e r (eqb-false r e q) ∙ tr))
+leaf-only {n} {t} v e vt lv le te r lr tr =
+    count-one (λ j. touches t j v) (rows n) e r (vt .leaf v lv) le te lr tr
 
 pub leaf-row : {n : ℕ} {t : List ℕ} (v : ℕ) → Valid n t → v < n
     → (r : ℕ) × (r < rows n) × (touches t r v ≡ true)

@@ -36,12 +36,7 @@ inOrder n t r = ltb (lo t r) (hi t r) && leb (hi t r) (2 * n - 3)
 unfoldable pub far : List ℕ → ℕ → ℕ → ℕ
 far t r v = pick (eqb (lo t r) v) (hi t r) (lo t r)
 
--- The rows below k at node v, in order; and those other than e.
-unfoldable pub rowsAt : List ℕ → ℕ → ℕ → List ℕ
-rowsAt t v zero = []
-rowsAt t v (suc k) =
-    pick (touches t k v) (rowsAt t v k ++ k ∷ []) (rowsAt t v k)
-
+-- The rows below k at node v other than e, in order.
 unfoldable pub others : List ℕ → ℕ → ℕ → ℕ → List ℕ
 others t e v zero = []
 others t e v (suc k) =

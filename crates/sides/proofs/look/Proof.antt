@@ -1,49 +1,43 @@
 -- `sides::look` meets its contract. Assumes nothing.
-use Rattle.table.specs.Between.{Rowed}
-use Rattle.sides.proofs.LookLaws.{found-rows, found-rowed, found-tree, found-5}
+use Rattle.sides.proofs.LookLaws.{tree-accepted, tree-inward, found-tree, found-refusal}
 use borrow.Author.Needs.{needs}
 use Rattle.sides.proofs.look.Statement.{statement}
 use Rattle.sides.proofs.look.Tie as tie
 
--- where the checks 1 to 4 pass, the table has its rows
-abbrev past-rows : tie.After-enum-told → tie.After-check-rows
-past-rows c = c .before .before
+-- where it is a tree, the array holds an order; past the sides of the rows at
+-- taxa
+abbrev past-check : tie.After-enum-told → tie.After-arrange
+past-check c = c .before .before
 
-rowed : (c : tie.After-enum-told) → let a = past-rows c .before .before .args in
-    Rowed (a .n) (a .t .now)
-rowed c = found-rowed (past-rows c .check-rows .ensures) (c .enum-told .given .1)
+abbrev past-told : tie.After-taxa-sides → tie.After-enum-told
+past-told c = c .before .before
 
--- past the call that asks for the nodes that can be reached
-abbrev past-hooks : tie.After-all-reached → tie.After-hook-rows
-past-hooks c = c .before .before .before
+taxa-sides-requires : tie.Need-taxa-sides-requires
+taxa-sides-requires c κs =
+    let told = c .before in
+    let at = past-check told in (
+      tree-accepted (at .arrange .ensures) (told .enum-told .given .1),
+      at .before .before .before .pre .1,
+    )
 
-hook-rows-requires : tie.Need-hook-rows-requires
-hook-rows-requires c κs = (rowed (c .before), past-rows (c .before) .before .before .pre .0)
-
-all-reached-requires : tie.Need-all-reached-requires
-all-reached-requires c κs =
-    let hooked = c .before .before in
-    let told = hooked .before .before in
-    (rowed told, hooked .hook-rows .ensures .near, past-rows told .before .before .pre .1)
+gather-requires : tie.Need-gather-requires
+gather-requires c κs =
+    let at-taxa = c .before .before in
+    let told = past-told at-taxa in
+    let R = past-check told .arrange .ensures in
+    let tree = told .enum-told .given .1 in
+    (tree-accepted R tree, tree-inward R tree, at-taxa .taxa-sides .ensures)
 
 returns : tie.Need-returns
 returns c =
-    let hooked = past-hooks (c .before) in
-    let told = hooked .before .before in
-    found-tree (past-rows told .check-rows .ensures) (told .enum-told .given .1)
-    (c .before .all-reached .ensures) (hooked .hook-rows .ensures .near) (c .if1 .taken)
+    found-refusal (c .before .before .before .arrange .ensures) (c .before .answer .given .1)
 
 returns-2 : tie.Need-returns-2
 returns-2 c =
-    found-rows (c .before .before .before .check-rows .ensures) (c .before .answer .given .1)
-
-returns-3 : tie.Need-returns-3
-returns-3 c =
-    let told = past-hooks (c .before) .before .before in
-    found-5 (past-rows told .check-rows .ensures) (told .enum-told .given .1)
-    (c .before .all-reached .ensures) (c .if1 .left)
+    let told = past-told (c .before .before .before) in
+    found-tree (past-check told .arrange .ensures) (told .enum-told .given .1) (c .gather .ensures)
 
 pub look-spec : {M : Type 1} → statement M
 look-spec =
     tie.close (tie.spec (λ c κs. search needs) (λ c. search needs) (λ c. search needs)
-    hook-rows-requires all-reached-requires returns returns-2 returns-3)
+    taxa-sides-requires gather-requires returns returns-2)

@@ -1,5 +1,5 @@
 -- `splits::compare` meets its contract. Assumes nothing.
-use Rattle.sides.proofs.LookLaws.{found-looked, looked-sided}
+use Rattle.sides.proofs.LookLaws.{sighted-sided}
 use Rattle.splits.proofs.SaidLaws.{compares-first}
 use borrow.Author.Needs.{needs}
 use Rattle.splits.proofs.compare.Statement.{statement}
@@ -8,13 +8,13 @@ use Rattle.splits.proofs.compare.Tie as tie
 compare-second-requires : tie.Need-compare-second-requires
 compare-second-requires c κs =
     let told = c .before in
-    looked-sided (found-looked (told .before .before .look .ensures) (told .enum-told .given .1))
+    sighted-sided (told .before .before .find-sides .ensures) (told .enum-told .given .1)
 
 returns : tie.Need-returns
 returns c =
     let at = c .before .before .before in
-    let a = at .before .before .before .before .before .args in
-    compares-first (a .u .now) (a .y) (at .look .ensures) (c .before .answer .given .1)
+    let a = at .before .before .before .before .args in
+    compares-first (a .u .now) (a .y) (at .find-sides .ensures) (c .before .answer .given .1)
 
 pub compare-spec : {M : Type 1} → statement M
 compare-spec =

@@ -1,5 +1,5 @@
 -- `splits::induced_splits` meets its contract. Assumes nothing.
-use Rattle.sides.proofs.LookLaws.{found-looked, looked-sided}
+use Rattle.sides.proofs.LookLaws.{sighted-sided}
 use Rattle.splits.proofs.SaidLaws.{induces-tree}
 use borrow.Author.Needs.{needs}
 use Rattle.splits.proofs.induced_splits.Statement.{statement}
@@ -8,11 +8,11 @@ use Rattle.splits.proofs.induced_splits.Tie as tie
 induced-tree-requires : tie.Need-induced-tree-requires
 induced-tree-requires c κs =
     let told = c .before .before in
-    looked-sided (found-looked (told .before .before .look .ensures) (told .enum-told .given .1))
+    sighted-sided (told .before .before .find-sides .ensures) (told .enum-told .given .1)
 
 returns : tie.Need-returns
 returns c =
-    induces-tree _ (c .before .before .before .look .ensures) (c .before .answer .given .1)
+    induces-tree _ (c .before .before .before .find-sides .ensures) (c .before .answer .given .1)
 
 returns-2 : tie.Need-returns-2
 returns-2 c =

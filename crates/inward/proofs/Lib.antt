@@ -1,0 +1,14 @@
+pub mod Across
+pub mod Mixes
+pub mod Meets
+pub mod Orders
+pub mod Counts
+pub mod Starts
+pub mod Places
+pub mod Kept
+pub mod Arrives
+pub mod Steps
+pub mod Outward
+pub mod Filled
+pub mod Whole
+pub mod Gathers
