@@ -1,5 +1,7 @@
 // Ascending lists of numbers in the caller's slices: a number put in, and what
 // one list lacks of another.
+#![tactic(auto)]
+
 ghost use Rattle.std.specs.Prelude.{◌≡◌, ◌<◌, ◌≤◌, length, take};
 ghost use Rattle.tree.specs.Lists as lists_spec;
 ghost use Rattle.tree.specs.Lists.{Asc};

@@ -1,5 +1,7 @@
 // What a call can be refused for, each with its number in the documents. What
 // every call promises is one shape, in specs/Calls.antt.
+#![tactic(auto)]
+
 ghost use Rattle.std.specs.Prelude.{◌≡◌};
 ghost use Rattle.calls.specs.Refusals.{number_of};
 

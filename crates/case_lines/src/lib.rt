@@ -2,6 +2,8 @@
 // cases: a case to a line, its words parted by one blank. A case starts with a
 // small letter. A line `NAME BYTES` gives a name in capitals its bytes. Every
 // other line is a comment.
+#![tactic(auto)]
+
 use libc::STDIN_FILENO;
 
 // How many pieces a list has, one more than it has marks.

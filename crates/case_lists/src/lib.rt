@@ -1,4 +1,6 @@
 // Lists of bytes and of numbers, as a word of a case has them, and lent lists.
+#![tactic(auto)]
+
 ghost use Rattle.case_lists.specs.Marks.{Tells};
 
 use case_lines::{count, first, head, line, lines, number, piece, word};

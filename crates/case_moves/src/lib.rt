@@ -1,4 +1,6 @@
 // The move in a word of a case.
+#![tactic(auto)]
+
 use case_lists::numbers;
 use move_plan::Move;
 

@@ -1,5 +1,7 @@
 // What the programs of cases write on standard output; a write that fails
 // shows where their output is compared.
+#![tactic(auto)]
+
 use libc::STDOUT_FILENO;
 
 // Writes words.

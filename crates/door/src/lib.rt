@@ -1,6 +1,8 @@
 // The front door of the calls about a move: the tree, the partitions and the
 // move are checked in the order of the refusals, and what was found goes on as
 // the plan of the move.
+#![tactic(auto)]
+
 ghost use Rattle.std.specs.Prelude.{◌≤◌, ◌≡◌, length};
 ghost use Rattle.calls.specs.Calls.{then_said};
 ghost use Rattle.taxa.specs.Most.{most};

@@ -1,5 +1,7 @@
 // The fields of a job: which tag is allowed, whether a length is right, and
 // numbers in bytes.
+#![tactic(auto)]
+
 ghost use Rattle.std.specs.Prelude.{◌+◌, ◌<◌, ◌≤◌, ◌≡◌, length, take, drop};
 ghost use Rattle.fields.specs.Fields as fields_spec;
 ghost use Rattle.fields.specs.Fields.{stated_at, length_right, number_in};

@@ -1,5 +1,7 @@
 // The distances of a move over partitions, from how many of the groups about
 // it each partition meets.
+#![tactic(auto)]
+
 ghost use Rattle.std.specs.Prelude.{◌≤◌, ◌-◌, ◌≡◌, not, true, false, eqb, length};
 ghost use Rattle.std.specs.Int.Bits.{bit_and};
 ghost use Rattle.taxa.specs.Sets.{tally, some};

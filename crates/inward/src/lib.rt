@@ -1,6 +1,8 @@
 // An order of the inner nodes of a tree, from the leaves inward. It is found by
 // loops, in a table of four places a node; where the table of rows is no tree,
 // that is found instead.
+#![tactic(auto)]
+
 ghost use Rattle.std.specs.Prelude.{◌*◌, ◌<◌, ◌≡◌, length};
 ghost use Rattle.taxa.specs.Most.{most};
 ghost use Rattle.tree.specs.Tree.{rows, nodes};

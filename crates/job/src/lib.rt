@@ -1,4 +1,6 @@
 // The step over one field of a job, from the state the last step gave.
+#![tactic(auto)]
+
 ghost use Rattle.std.specs.Prelude.{◌<◌, ◌≤◌, ◌≡◌, true, ◌||◌, [], eqb, leb, length};
 ghost use Rattle.taxa.specs.Most.{most};
 ghost use Rattle.move_plan.specs.Between.{fitted_says};

@@ -1,5 +1,7 @@
 // Jobs, run on the cases of standard input: for each a line of its own, then
 // the job's listing. The first letter of a case tells how it is run.
+#![tactic(auto)]
+
 mod long;
 
 use case_lines::{first, head, title, word};

@@ -1,4 +1,6 @@
 // Refusal 16 in a job: where it is judged, and its place.
+#![tactic(auto)]
+
 ghost use Rattle.std.specs.Prelude.{◌≡◌, ◌||◌, eqb};
 ghost use Rattle.calls.specs.Calls.{refuses_at, tells};
 ghost use Rattle.calls.specs.declared.Refusal.TheVariants as refusal;

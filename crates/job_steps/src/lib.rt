@@ -1,5 +1,7 @@
 // What a step over a job says, and what follows of its listing; the state
 // between two steps and the answer of one.
+#![tactic(auto)]
+
 ghost use Rattle.std.specs.Prelude.{◌*◌, ◌≤◌, ◌≡◌};
 ghost use Rattle.taxa.specs.Most.{most};
 ghost use Rattle.tree.specs.Tree.{rows};

@@ -1,5 +1,7 @@
 // The calls about a move: applied to a table, and judged for partitions before
 // anything is scored.
+#![tactic(auto)]
+
 ghost use Rattle.std.specs.Prelude.{◌^◌, ◌<◌, ◌≡◌};
 ghost use Rattle.calls.specs.Calls.{Pass};
 ghost use Rattle.tree.specs.Splits.{dist, distances};

@@ -1,5 +1,7 @@
 // Numbers and lines as text: each writer puts its bytes at the start of what
 // is lent to it, and nothing after them.
+#![tactic(auto)]
+
 ghost use Rattle.std.specs.Prelude.{◌+◌, ◌≤◌, ◌≡◌, length};
 ghost use Rattle.taxa.specs.Most.{most_partitions};
 ghost use Rattle.lines.specs.Lines.{decimal, bin, class_name};

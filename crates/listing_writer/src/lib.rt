@@ -1,4 +1,6 @@
 // The listing of a whole job, written on standard output.
+#![tactic(auto)]
+
 ghost use Rattle.std.specs.Prelude.{◌≤◌, length};
 
 use calls::Refusal;

@@ -1,5 +1,7 @@
 // The calls about moves, run on the cases of standard input: a line for each,
 // the number that matters first. The first letter of a case tells the call.
+#![tactic(auto)]
+
 mod moves;
 
 use case_lines::{first, head, size, word};

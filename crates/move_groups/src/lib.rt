@@ -1,5 +1,7 @@
 // The groups of taxa on the way from an end of a row to its target, from the
 // sides of the rows alone.
+#![tactic(auto)]
+
 ghost use Rattle.std.specs.Prelude.{◌<◌, ◌≤◌, ◌≡◌, true, false};
 ghost use Rattle.tree.specs.Tree.{rows};
 ghost use Rattle.sides.specs.Between.{At, Sides, Sided, Looked};

@@ -1,4 +1,6 @@
 // The lines of one move, measured and written at the start of a lent output.
+#![tactic(auto)]
+
 ghost use Rattle.std.specs.Prelude.{◌*◌, ◌≤◌, ◌≡◌, length};
 ghost use Rattle.taxa.specs.Most.{most_partitions};
 ghost use Rattle.calls.specs.Between.{Wrote};

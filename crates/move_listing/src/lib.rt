@@ -1,5 +1,7 @@
 // One move's lines, written into a lent output from a place on, and the move
 // made on the lent table.
+#![tactic(auto)]
+
 ghost use Rattle.std.specs.Prelude.{◌+◌, ◌≤◌, ◌≡◌, leb, length};
 ghost use Rattle.calls.specs.Calls.{lent_then};
 ghost use Rattle.taxa.specs.Most.{most_partitions};

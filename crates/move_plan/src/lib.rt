@@ -1,5 +1,7 @@
 // Whether the four bytes of a move fit a tree, refusals 7 to 10, and the plan
 // of one that does. The kind of a move is asked for here and nowhere else.
+#![tactic(auto)]
+
 ghost use Rattle.std.specs.Prelude.{◌*◌, ◌<◌, ◌≤◌, ◌≡◌, [], ◌∷◌};
 ghost use Rattle.taxa.specs.Most.{most};
 ghost use Rattle.tree.specs.Tree.{rows};

@@ -1,4 +1,6 @@
 // A move written into a tree table in place, by its plan.
+#![tactic(auto)]
+
 ghost use Rattle.std.specs.Prelude.{◌<◌, ◌≡◌};
 ghost use Rattle.moves.specs.Moves as moves_spec;
 ghost use Rattle.moves.specs.Moves.{end_on, nni, put_end, move_end};

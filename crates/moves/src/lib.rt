@@ -1,5 +1,6 @@
 // The three moves, their groups and their distances: definitions and laws. The
 // only code is the two structs in which what was found of a move goes on.
+#![tactic(auto)]
 
 // An end of the row that a move is about: its node, the row that is named for
 // it, and whether it goes there.

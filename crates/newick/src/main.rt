@@ -1,5 +1,7 @@
 // Reads a number of taxa and a tree's Newick text on standard input, and
 // writes the first two fields of a job, n and the table, on standard output.
+#![tactic(auto)]
+
 ghost use Rattle.std.specs.Prelude.{◌*◌, ◌≤◌, ◌≡◌, length};
 ghost use Rattle.tree.specs.Tree.{rows};
 ghost use Rattle.newick_reader.specs.Promises.{Right};

@@ -1,6 +1,8 @@
 // Newick texts, read from the cases of standard input: a line for each, 0
 // where it is accepted, otherwise the refusal's number and its place where it
 // has one. The first letter of a case tells what is done.
+#![tactic(auto)]
+
 mod apart;
 mod texts;
 

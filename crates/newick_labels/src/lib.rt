@@ -1,4 +1,6 @@
 // A taxon's label at a place of a text, judged byte by byte.
+#![tactic(auto)]
+
 ghost use Rattle.std.specs.Prelude.{◌<◌, ◌≡◌, length};
 ghost use Rattle.taxa.specs.Sets as sets;
 ghost use Rattle.newick_labels.specs.Between.{value_at, begun, LabelIs};

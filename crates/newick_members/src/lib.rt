@@ -1,5 +1,7 @@
 // The members of a tree's Newick text: a label or a group, its rows written
 // into the table; or the first byte at which no continuation is a tree.
+#![tactic(auto)]
+
 ghost use Rattle.std.specs.Prelude.{◌+◌, ◌^◌, ◌<◌, ◌≤◌, ◌≡◌, length};
 ghost use Rattle.taxa.specs.Most.{most};
 ghost use Rattle.tree.specs.Tree.{rows};

@@ -1,5 +1,7 @@
 // The outermost group of a tree's Newick text, of two members or three, and
 // the end of the text.
+#![tactic(auto)]
+
 ghost use Rattle.std.specs.Prelude.{◌+◌, ◌<◌, ◌≤◌, ◌≡◌, length};
 ghost use Rattle.taxa.specs.Most.{most};
 ghost use Rattle.taxa.specs.Sets.{size};

@@ -1,5 +1,7 @@
 // The reader of Newick text: one tree as a table, or the first byte at which
 // no continuation is a tree.
+#![tactic(auto)]
+
 ghost use Rattle.std.specs.Prelude.{◌*◌, ◌<◌, ◌≤◌, ◌≡◌};
 ghost use Rattle.taxa.specs.Most.{most};
 ghost use Rattle.newick_grammar.specs.Numbers.{blank};

@@ -1,4 +1,6 @@
 // The rows at each node, in the first three of its four places.
+#![tactic(auto)]
+
 ghost use Rattle.std.specs.Prelude.{◌*◌, ◌<◌, ◌≡◌, ltb, length};
 ghost use Rattle.taxa.specs.Most.{most};
 ghost use Rattle.taxa.specs.Sets.{pick};

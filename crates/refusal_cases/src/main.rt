@@ -1,6 +1,8 @@
 // Moves that are refused, run on the cases of standard input: a line for each
 // with the number that each of the three calls about a move gives, and whether
 // all that was lent is as it was.
+#![tactic(auto)]
+
 use case_lines::{first, size, title, word};
 use case_lists::{LONG, MARK, all_marks, bytes, first_mut, numbers};
 use case_moves::four;

@@ -1,4 +1,6 @@
 // How many partitions count as saved by a move.
+#![tactic(auto)]
+
 ghost use Rattle.std.specs.Prelude.{◌≡◌, length};
 ghost use Rattle.taxa.specs.Most.{most};
 ghost use Rattle.saved.specs.Saved.{counts_as_saved, saved_of};

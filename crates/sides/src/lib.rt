@@ -1,5 +1,7 @@
 // The check of a tree, and the side of every row: both from an order of the
 // inner nodes from the leaves inward.
+#![tactic(auto)]
+
 ghost use Rattle.std.specs.Prelude.{◌%◌, ◌^◌, ◌<◌, ◌≤◌, ◌≡◌, length, set};
 ghost use Rattle.taxa.specs.Most.{most};
 ghost use Rattle.tree.specs.Tree.{rows, far, part};

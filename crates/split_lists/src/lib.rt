@@ -1,5 +1,7 @@
 // The induced splits of a tree as an ascending list, from the sides of its
 // rows.
+#![tactic(auto)]
+
 ghost use Rattle.std.specs.Prelude.{◌^◌, ◌<◌, ◌≤◌, ◌≡◌, length, take};
 ghost use Rattle.taxa.specs.Most.{most};
 ghost use Rattle.taxa.specs.Sets.{lowest};

@@ -1,6 +1,8 @@
 // Steps over the table's field of a job, with more or less memory lent for the
 // table, run on the cases of standard input: for each what is wrong, how many
 // bytes were lent, whether they are as they were, and the answer.
+#![tactic(auto)]
+
 use case_lines::{size, title, word};
 use case_lists::{LONG, first_mut, given, marked};
 use case_prints::{kept, line, number, put, say};

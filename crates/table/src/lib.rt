@@ -1,5 +1,7 @@
 // The tree table in bytes: its rows, the refusals of document 01, and the
 // checks 1 to 4.
+#![tactic(auto)]
+
 ghost use Rattle.std.specs.Prelude.{◌+◌, ◌*◌, ◌-◌, ◌<◌, ◌≤◌, ◌≡◌, eqb, length, get_or};
 ghost use Rattle.taxa.specs.Most.{most};
 ghost use Rattle.tree.specs.Tree as tree_spec;

@@ -1,4 +1,6 @@
 // Sets of taxa as 64-bit numbers: bit i stands for taxon i.
+#![tactic(auto)]
+
 ghost use Rattle.std.specs.Prelude.{◌<◌, ◌≤◌, ◌^◌, ◌≡◌, ltb};
 ghost use Rattle.taxa.specs.Most.{most};
 ghost use Rattle.taxa.specs.Sets as sets;

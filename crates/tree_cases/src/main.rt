@@ -1,5 +1,7 @@
 // The calls on tables, run on the cases of standard input: a line for each, the
 // number that matters first. The first letter of a case tells the call.
+#![tactic(auto)]
+
 mod trees;
 
 use case_lines::{head, size, word};

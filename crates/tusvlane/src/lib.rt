@@ -1,5 +1,7 @@
 // The library's calls under their C names: include/tusvlane.h declares them.
 // Each gives what the call beneath gives, with the refusal as its number.
+#![tactic(auto)]
+
 ghost use Rattle.std.specs.Prelude.{◌≡◌};
 ghost use Rattle.calls.specs.Calls.{refuses};
 ghost use Rattle.move_plan.specs.Entries.{move_of};

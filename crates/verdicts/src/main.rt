@@ -1,4 +1,6 @@
 // Reads a job on standard input and writes its listing on standard output.
+#![tactic(auto)]
+
 use libc::{STDERR_FILENO, STDIN_FILENO};
 
 // Lists the job where it was read whole; a failure is said on standard error,

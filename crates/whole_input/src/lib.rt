@@ -1,5 +1,7 @@
 // Standard input, read into the kit's large buffer: whether it was read to its
 // end.
+#![tactic(auto)]
+
 ghost use Rattle.std.specs.Prelude.{◌≡◌, true};
 
 use libc::STDIN_FILENO;
