@@ -51,31 +51,27 @@ come-requires c =
 
 pub returns-in-First : goal.returns-in-First
 returns-in-First c =
-    let h = rw c.enum_told-1.given.1 at c.come.ensures in
+    let h = c.in-First.ensures in
     rw h.1 (come_first (arrives (goal.at.returns-in-First c).Else-w-n) h.0)
 
 pub returns-in-Again : goal.returns-in-Again
 returns-in-Again c =
-    let h = rw c.enum_told-in-Again-1.given.1 at c.come.ensures in
+    let h = c.in-Again.ensures in
     not_again c.requires.2 (arrives (goal.at.returns-in-Again c).Else-w-n) h
 
 -- where it comes as the second there is room for a node more
-room : (c : In-Second)
-    → c.loop-n.c < c.args.n - 2
-room c =
-    let h = rw c.x-1.given.1 at c.come.ensures in
-    second-room (arrives (c.TO.Else-w-n)) h.1
-
 pub overflow_add-c : goal.overflow_add-c
 overflow_add-c c =
     let A = arrives (goal.at.overflow_add-c c).Else-w-n in
-    omega (arith, room c, A.rowed.ordered.few)
+    omega (arith, second-room A c.in-Second.ensures.1, A.rowed.ordered.few)
 
 pub loop-n-smaller : goal.loop-n-smaller
-loop-n-smaller c = omega (arith, room c)
+loop-n-smaller c =
+    let A = arrives (goal.at.loop-n-smaller c).Else-w-n in
+    omega (arith, second-room A c.in-Second.ensures.1)
 
 pub loop-n-preserved : goal.loop-n-preserved
 loop-n-preserved c =
-    let h = rw c.x-1.given.1 c c.come.ensures in
+    let h = c.in-Second.ensures in
     rw (h.3, h.2, add-one c.loop-n.c)
     (come_second (arrives (goal.at.loop-n-preserved c).Else-w-n) h.1 h.0 c.requires.2)

@@ -13,9 +13,9 @@ loop-i-init c =
 
 pub returns-in-Ring : goal.returns-in-Ring
 returns-in-Ring c =
-    arranged_ring c.requires.0 (rw c.enum_told-1.given.1 c c.climb.ensures)
+    arranged_ring c.requires.0 c.in-Ring.ensures
 
 pub returns : goal.returns
 returns c =
     let i-is : c.loop-i.i ≡ c.args.n = omega (arith, c.loop-i.invariant.1, c.loop-i-test.false) in
-    arranged_tree c.requires.0 (rw i-is c c.loop-i.invariant.2) refl
+    arranged_tree c.requires.0 (rw i-is at c.loop-i.invariant.2) refl
