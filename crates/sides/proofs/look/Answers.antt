@@ -1,0 +1,19 @@
+-- `sides::look` meets its contract.
+use Rattle.sides.proofs.LookLaws.{tree_accepted, tree_inward, found_tree}
+use Rattle.sides.proofs.look.Goals as goal
+
+pub taxa_sides-requires : goal.taxa_sides-requires
+taxa_sides-requires c = (
+  tree_accepted c.arrange-answer.ensures c.in-Tree.is,
+  c.requires.1,
+)
+
+pub gather-requires : goal.gather-requires
+gather-requires c =
+    let R = c.arrange-answer.ensures in
+    let tree = c.in-Tree.is in
+    (tree_accepted R tree, tree_inward R tree, c.taxa_sides.ensures)
+
+pub returns-in-Tree : goal.returns-in-Tree
+returns-in-Tree c =
+    found_tree c.arrange-answer.ensures c.in-Tree.is c.gather.ensures
