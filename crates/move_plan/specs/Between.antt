@@ -8,7 +8,6 @@ use Rattle.moves.specs.Moves as moves
 use Rattle.moves.specs.Moves.{nni_fits, end_with, targets, at_both, all_rows, move_checks}
 use Rattle.moves.specs.Between.{nni_plan, spr_plan, tbr_plan, plan_of}
 use Rattle.moves.specs.declared.Plan.{Plan}
-use Rattle.move_plan.specs.declared.Move.{Move}
 use Rattle.move_plan.specs.declared.Fitted.{Fitted}
 use Rattle.move_plan.specs.declared.Fitted.TheVariants as fitted
 use Rattle.move_plan.specs.declared.Entry.{Entry}
