@@ -38,6 +38,9 @@ pub same_counted_four : (n y d : ℕ) {r : ℕ} → d ≡ 0 → r ≡ size n y
 unfolding counts_as_saved four_or_more
 same_counted_four n y d h e = rw (e, eq-eqb d 0 h)
 
+-- both, for the code
+pub ruleset one_counted = (changed_not_counted, same_counted_four)
+
 -- what counts as saved has distance 0
 counted_same : (n y d : ℕ) → counts_as_saved n y d ≡ true → eqb d 0 ≡ true
 unfolding counts_as_saved

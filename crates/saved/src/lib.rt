@@ -11,6 +11,7 @@ const FEWEST_SCORED: usize = 4;
 
 // Whether a partition counts as saved, where its distance is d: it is the same
 // and has four or more taxa.
+#[tactic(auto, using(crate::proofs::SavedLaws::one_counted))]
 fn counts_as_saved(y: u64, d: u64) -> bool
     ensures { result ≡ counts_as_saved most y d }
 {
