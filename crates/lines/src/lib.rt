@@ -26,7 +26,7 @@ pub fn number(n: u64, out: &mut [u8]) -> usize
 {
     let mut digits = [0u8; 20];
     let k = io::decimal(n, &mut digits);
-    bytes::copy(&digits[..k], out)
+    then_word(&digits[..k], out, 0)
 }
 
 // Writes n in decimal from place at on; where it ends.
@@ -43,8 +43,9 @@ fn then_word(w: &[u8], out: &mut [u8], at: usize) -> usize
     requires { at + length w.now ≤ length out.old }
     ensures { WroteAt w.now at out.old result out.new }
 {
-    let k = bytes::copy(w, &mut out[at..]);
-    at + k
+    let end = at + w.len();
+    out[at..end].copy_from_slice(w);
+    end
 }
 
 // The smallest i with 10 s at most i times k, or 10.

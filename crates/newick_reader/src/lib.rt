@@ -33,7 +33,7 @@ fn plant(n: usize, text: &[u8], table: &mut [u8; TABLE], out: &mut [u8]) -> Read
             if out.len() < found.len() {
                 return Reading::Refused(Refusal::Room);
             }
-            bytes::copy(found, out);
+            out[..found.len()].copy_from_slice(found);
             Reading::Table
         }
     }
