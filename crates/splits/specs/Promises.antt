@@ -1,5 +1,5 @@
 -- What the two calls say and promise, for every input.
-use Rattle.std.specs.Prelude.{ℕ, ◌+◌, List, ◌++◌, length}
+use Rattle.std.specs.Prelude.{ℕ, List, ◌++◌, length}
 use Rattle.calls.specs.Calls.{Said, gives, refuses, judged, Call, Answers, tells, as_said, at_start}
 use Rattle.tree.specs.Editions.{Edition, narrow}
 use Rattle.tree.specs.Splits.{splits, dist, missing}
