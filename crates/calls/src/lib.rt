@@ -7,7 +7,7 @@ ghost use Rattle.calls.specs.Refusals.{number_of};
 
 // What a call is refused for, in the order of the documents' numbers. All
 // those of both documents stand here; no call gives 15 or 17 to 21 yet.
-#[derive(Drop)]
+#[derive(Clone, Copy)]
 pub enum Refusal {
     // 1: the number of taxa is not from 4 to the most.
     Count,

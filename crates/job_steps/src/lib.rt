@@ -20,7 +20,7 @@ pub const LINES: usize = 8192;
 // How far a job was read: the offset of the next field, the number of taxa,
 // how many partitions and how many moves were read.
 #[repr(C)]
-#[derive(Drop)]
+#[derive(Clone, Copy)]
 pub struct State {
     pub at: usize,
     pub taxa: usize,

@@ -18,7 +18,7 @@ use move_plan::{Entry, Move};
 use moves::Plan;
 
 // The answer of a move's lines: the place after them.
-#[derive(Drop)]
+#[derive(Clone, Copy)]
 pub enum Lines {
     To(usize),
     Refused(Refusal),

@@ -19,7 +19,7 @@ use moves::{Plan, Side};
 
 // The four bytes of a move: its kind, and three row numbers.
 #[repr(C)]
-#[derive(Drop)]
+#[derive(Clone, Copy)]
 pub struct Move {
     pub kind: u8,
     pub first: u8,

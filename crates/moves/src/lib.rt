@@ -4,7 +4,7 @@
 
 // An end of the row that a move is about: its node, the row that is named for
 // it, and whether it goes there.
-#[derive(Drop)]
+#[derive(Clone, Copy)]
 pub struct Side {
     pub node: usize,
     pub target: usize,
@@ -13,7 +13,7 @@ pub struct Side {
 
 // What was found of a move that fits: whether it is an NNI, its row, and the
 // two ends of the row.
-#[derive(Drop)]
+#[derive(Clone, Copy)]
 pub struct Plan {
     pub nni: bool,
     pub row: usize,
