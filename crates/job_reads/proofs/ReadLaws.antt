@@ -31,7 +31,6 @@ use Rattle.job_steps.specs.Steps.{parts_lent, table_lent}
 use Rattle.job_steps.specs.declared.State.{State}
 use Rattle.job_steps.specs.declared.Stepped.{Stepped}
 use Rattle.job_steps.proofs.StepLaws.{lending_same, table-first, table_fits}
-use Rattle.job_steps.specs.Runs.{first}
 
 -- ---- n
 taxa-told : (job : List ℕ) (at : ℕ) (s : Said ℕ) → taxa_field job at ≡ s

@@ -66,7 +66,8 @@ fn put_table(at: usize, n: usize, t: &[u8], table: &mut [u8]) -> Stepped
             place: at,
         };
     }
-    let k = bytes::copy(t, table);
+    let k = t.len();
+    table[..k].copy_from_slice(t);
     Stepped::Next {
         state: State {
             at: at + 3 + k,
