@@ -71,8 +71,7 @@ fn refused(r: Refusal) -> Answer
 }
 
 // Whether a table is a tree of n taxa: 0, or a refusal from 1 to 5.
-#[unsafe(no_mangle)]
-pub extern "C" fn tusvlane_check_tree(n: usize, table: &[u8]) -> u32
+pub fn tusvlane_check_tree(n: usize, table: &[u8]) -> u32
     ensures { Checks n table.now result }
 {
     match sides::check_tree(n, table) {
@@ -83,8 +82,7 @@ pub extern "C" fn tusvlane_check_tree(n: usize, table: &[u8]) -> u32
 
 // Writes the induced splits of a tree over a partition; how many. Refusals 1
 // to 6 and 11.
-#[unsafe(no_mangle)]
-pub extern "C" fn tusvlane_induced_splits(
+pub fn tusvlane_induced_splits(
     n: usize,
     table: &[u8],
     partition: u64,
@@ -102,8 +100,7 @@ pub extern "C" fn tusvlane_induced_splits(
 }
 
 // How far apart two trees are over a partition. Refusals 1 to 6.
-#[unsafe(no_mangle)]
-pub extern "C" fn tusvlane_compare(
+pub fn tusvlane_compare(
     n: usize,
     first: &[u8],
     second: &[u8],
@@ -126,8 +123,7 @@ pub extern "C" fn tusvlane_compare(
 }
 
 // Makes a move on the lent table: 0, or a refusal from 1 to 5 and 7 to 10.
-#[unsafe(no_mangle)]
-pub extern "C" fn tusvlane_apply_move(n: usize, table: &mut [u8], m: Move) -> u32
+pub fn tusvlane_apply_move(n: usize, table: &mut [u8], m: Move) -> u32
     ensures { Applies n table.old (move_of m) result table.new }
 {
     match judge::apply_move(n, table, m) {
@@ -138,8 +134,7 @@ pub extern "C" fn tusvlane_apply_move(n: usize, table: &mut [u8], m: Move) -> u3
 
 // Writes the distance that a move makes over each partition; how many are 0.
 // Refusals 1 to 11, and 16 after 6.
-#[unsafe(no_mangle)]
-pub extern "C" fn tusvlane_judge_move(
+pub fn tusvlane_judge_move(
     n: usize,
     table: &[u8],
     partitions: &[u64],
@@ -159,8 +154,7 @@ pub extern "C" fn tusvlane_judge_move(
 }
 
 // The distance that a move makes over one partition. Refusals 1 to 10.
-#[unsafe(no_mangle)]
-pub extern "C" fn tusvlane_judge_one(n: usize, table: &[u8], partition: u64, m: Move) -> Answer
+pub fn tusvlane_judge_one(n: usize, table: &[u8], partition: u64, m: Move) -> Answer
     ensures { JudgesOne n table.now partition (move_of m) result }
 {
     match judge::judge_one(n, table, partition, m) {
@@ -174,8 +168,7 @@ pub extern "C" fn tusvlane_judge_one(n: usize, table: &[u8], partition: u64, m: 
 
 // Makes a move and writes its lines, under the number stated, into out from
 // the place on; the place after them. Refusals 1 to 11, and 16 after 6.
-#[unsafe(no_mangle)]
-pub extern "C" fn tusvlane_list_move(
+pub fn tusvlane_list_move(
     n: usize,
     table: &mut [u8],
     partitions: &[u64],
@@ -199,8 +192,7 @@ pub extern "C" fn tusvlane_list_move(
 
 // Reads a tree of n taxa from its Newick text into the lent table. Refusals 1,
 // 14 with its place, and 11.
-#[unsafe(no_mangle)]
-pub extern "C" fn tusvlane_read_newick(n: usize, text: &[u8], out: &mut [u8]) -> Placed
+pub fn tusvlane_read_newick(n: usize, text: &[u8], out: &mut [u8]) -> Placed
     ensures { Plants n text.now out.old result out.new }
 {
     match newick_reader::read_newick(n, text, out) {
@@ -220,16 +212,14 @@ pub extern "C" fn tusvlane_read_newick(n: usize, text: &[u8], out: &mut [u8]) ->
 }
 
 // The state before the first field of a job.
-#[unsafe(no_mangle)]
-pub extern "C" fn tusvlane_start() -> State
+pub fn tusvlane_start() -> State
     ensures { result ≡ runs.first }
 {
     job_steps::start()
 }
 
 // The step over one field of a job, from the state the last step gave.
-#[unsafe(no_mangle)]
-pub extern "C" fn tusvlane_step(
+pub fn tusvlane_step(
     job: &[u8],
     state: State,
     table: &mut [u8],
