@@ -2,7 +2,7 @@
 // the number that matters first. The first letter of a case tells the call.
 #![tactic(auto)]
 
-mod moves;
+mod three;
 
 use case_lines::{first, head, size, word};
 use case_lists::{LONG, bytes, first_mut};
@@ -11,9 +11,9 @@ use case_lists::{LONG, bytes, first_mut};
 fn call(rt: &impl Print, l: &[u8], copy: &[u8], t: &mut [u8]) {
     let n = size(l, 1);
     match head(l) {
-        b'o' => moves::one(rt, l, n, t),
-        b'e' => moves::each(rt, l, n, t),
-        b'a' => moves::apply(rt, l, n, copy, t),
+        b'o' => three::one(rt, l, n, t),
+        b'e' => three::each(rt, l, n, t),
+        b'a' => three::apply(rt, l, n, copy, t),
         _ => case_prints::line(rt, b"no such call"),
     }
 }
