@@ -40,7 +40,7 @@ def build_archive():
     if not shutil.which(COMPILER):
         stop("no " + COMPILER + "; apt-get install " + PACKAGE)
     os.makedirs(MADE, exist_ok=True)
-    call(["rt", "staticlib", "tusvlane"], cwd=ROOT)
+    call([ROOT + "/tools/build", "tusvlane"])
 
 
 def compile_c(made, files, *more):

@@ -8,7 +8,6 @@ top=$(dirname "$(dirname "$(realpath "$0")")")
 . "$top/tools/common.sh"
 
 machine=$(uname -m)
-library=$top/target/staticlib/libtusvlane.a
 made=$top/target/clients
 
 # Says that a command is missing, and how to install it.
@@ -17,13 +16,10 @@ want() { # COMMAND PACKAGE
         fail "$1 is missing. Install it: apt-get install $2"
 }
 
-# Proves the library and writes the archive, where it is not there or not of
-# the present files.
+# Writes the archive, where it is not there or not of the present files.
 archive() {
     mkdir -p "$made"
-    fresh "$library" && return
-    echo "proving the library, which takes some minutes" >&2
-    prove staticlib tusvlane
+    build_library
 }
 
 # Runs a compiled client, shows what it prints and compares it with the file.

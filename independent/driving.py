@@ -30,7 +30,7 @@ def compiler():
 def build_driver():
     """Compiles calls.c with the library, statically: no loader is needed."""
     if not os.path.exists(LIBRARY):
-        sys.exit("%s is not built; this builds it: rt staticlib tusvlane"
+        sys.exit("%s is not built; this builds it: tools/build tusvlane"
                  % os.path.relpath(LIBRARY, running.TOP))
     os.makedirs(os.path.dirname(DRIVER), exist_ok=True)
     subprocess.run(

@@ -9,9 +9,14 @@ fail() {
     exit 1
 }
 
-# Whether the file is there and nothing that is proved is newer.
+# The archive of the library, for callers in C and Rust.
+library=$top/target/staticlib/libtusvlane.a
+
+# Whether the file is there and no file that is proved is newer. What rt keeps
+# lies in the folders out/.
 fresh() { # FILE
-    [ -f "$1" ] && [ -z "$(find "$top/crates" "$top/crates.txt" -newer "$1")" ]
+    [ -f "$1" ] && [ -z "$(find "$top/crates" "$top/crates.txt" \
+        -name out -prune -o -type f -newer "$1" -print)" ]
 }
 
 # Whether rt, the command of the Rattle kit, is there.
@@ -20,15 +25,15 @@ want_rt() {
         fail "rt, the command of the Rattle kit, is not found"
 }
 
-# Runs rt in the repository. What it says goes to a file of target/, and to
-# standard error if it fails.
+# Runs rt in the folder of a crate. What it says goes to a file of target/, and
+# to standard error if it fails.
 prove() { # WORD NAME
     want_rt
     mkdir -p "$top/target"
     said=$top/target/$1-$2.say
-    (cd "$top" && rt "$1" "$2") </dev/null >"$said" 2>&1 && return
+    (cd "$top/crates/$2" && rt "$1") </dev/null >"$said" 2>&1 && return
     cat "$said" >&2
-    fail "rt $1 $2 failed"
+    fail "rt $1 failed in crates/$2"
 }
 
 # Prints the folder of the kit's tools for this machine. On a machine that is
@@ -44,16 +49,36 @@ emulator_folder() {
     echo "$folder"
 }
 
+# The file of a program that is built.
+program() { # NAME
+    echo "$top/crates/$1/out/$1"
+}
+
 # Proves and builds a program, where it is not there or a file of crates/ has
-# changed since. The mark that it is built has the time at which the check
-# began, so that a file changed meanwhile counts as newer.
+# changed since. It is run too, on empty input. The mark that it is built has
+# the time at which the check began, so that a file changed meanwhile counts as
+# newer.
 build_program() { # NAME
     mark=$top/target/$1.built
-    [ -x "$top/target/bin/$1" ] && fresh "$mark" && return
+    [ -x "$(program "$1")" ] && fresh "$mark" && return
     echo "proving the program, which can take some minutes" >&2
     mkdir -p "$top/target"
     : >"$mark.new"
-    prove check "$1"
+    prove run "$1"
+    mv "$mark.new" "$mark"
+}
+
+# Proves the library and writes the archive, where it is not there or not of
+# the present files.
+build_library() {
+    mark=$top/target/tusvlane.built
+    [ -f "$library" ] && fresh "$mark" && return
+    echo "proving the library, which can take some minutes" >&2
+    mkdir -p "$(dirname "$library")"
+    : >"$mark.new"
+    prove lib tusvlane_c
+    cp "$top/crates/tusvlane_c/out/libtusvlane_c.a" "$library" ||
+        fail "the archive was not written"
     mv "$mark.new" "$mark"
 }
 
@@ -61,7 +86,7 @@ build_program() { # NAME
 # standard error tells that it failed, and is put into `said`.
 run_program() { # NAME
     exec 3>&1
-    said=$("$top/tools/run-x86" "$top/target/bin/$1" 2>&1 >&3) ||
+    said=$("$top/tools/run-x86" "$(program "$1")" 2>&1 >&3) ||
         said="${said:-the program was stopped}"
     [ -z "$said" ]
 }

@@ -4,14 +4,14 @@
 // other line is a comment.
 #![tactic(auto)]
 
-use libc::STDIN_FILENO;
+use std::io::Read;
 
 // How many pieces a list has, one more than it has marks.
 pub fn count(s: &[u8], mark: u8) -> usize {
     let mut k: usize = 1;
     let mut i: usize = 0;
     while i < s.len() {
-        k = std::num::wrapping_add_usize(k, (s[i] == mark) as usize);
+        k = k.wrapping_add((s[i] == mark) as usize);
         i += 1;
     }
     k
@@ -25,7 +25,7 @@ fn start(s: &[u8], mark: u8, k: usize) -> usize {
         if left == 0 {
             return i;
         }
-        left = std::num::wrapping_sub_usize(left, (s[i] == mark) as usize);
+        left = left.wrapping_sub((s[i] == mark) as usize);
         i += 1;
     }
     i
@@ -71,7 +71,7 @@ pub fn lines(input: &[u8]) -> usize {
 
 // How many line feeds a list has.
 pub fn feeds(s: &[u8]) -> u64 {
-    std::num::wrapping_sub_u64(count(s, b'\n') as u64, 1)
+    (count(s, b'\n') as u64).wrapping_sub(1)
 }
 
 // Line k of the input.
@@ -107,17 +107,17 @@ pub fn number(word: &[u8]) -> u64 {
     let mut k: u64 = 0;
     let mut i: usize = 0;
     while i < word.len() {
-        k = std::num::wrapping_add_u64(tenfold(k), (word[i] % 16) as u64);
+        k = tenfold(k).wrapping_add((word[i] % 16) as u64);
         i += 1;
     }
     k
 }
 
-// Standard input, read into what is lent, or none of it where it could not be
-// read whole.
-pub fn read(room: &mut [u8]) -> &[u8] {
-    let got = io::read_full(STDIN_FILENO, room);
-    if whole_input::whole(got) {
+// An input, read into what is lent, or none of it where it could not be read
+// whole.
+pub fn read<'a, R: Read>(input: &mut R, room: &'a mut [u8]) -> &'a [u8] {
+    let got = whole_input::read_full(input, room);
+    if whole_input::whole(input, got) {
         return first(room, got);
     }
     first(room, 0)

@@ -133,7 +133,7 @@ fn named(input: &[u8], name: &[u8]) -> usize {
     let m = lines(input);
     let mut k: usize = 0;
     while k < m {
-        if check::same(word(line(input, k), 0), name) {
+        if word(line(input, k), 0) == name {
             return k;
         }
         k += 1;

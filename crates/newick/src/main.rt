@@ -8,7 +8,6 @@ ghost use Rattle.newick_reader.specs.Promises.{Right};
 ghost use Rattle.newick.specs.Input.{LineSays, heads};
 
 use calls::Refusal;
-use libc::{STDERR_FILENO, STDIN_FILENO, STDOUT_FILENO};
 use newick_reader::Reading;
 
 // The byte of a line feed.
@@ -52,76 +51,74 @@ fn before_table(n: usize) -> [u8; 7]
 
 // Writes the two fields, the table being the first bytes of what was lent for
 // it; whether all of them were written.
-fn put(n: usize, lent: &[u8]) -> bool
+fn put(rt: &impl Print, n: usize, lent: &[u8]) -> bool
     requires { Right n × (2 * rows n ≤ length lent.now) }
 {
-    if io::write_all(STDOUT_FILENO, &before_table(n)) {
-        return io::write_all(STDOUT_FILENO, &lent[..2 * (2 * n - 3)]);
+    if rt.write_all(&before_table(n)).is_ok() {
+        return rt.write_all(&lent[..2 * (2 * n - 3)]).is_ok();
     }
     false
 }
 
 // Writes the two fields, and says where they could not be written.
-fn give(n: usize, lent: &[u8])
+fn give(rt: &(impl Print + Eprint), n: usize, lent: &[u8])
     requires { Right n × (2 * rows n ≤ length lent.now) }
 {
-    if !put(n, lent) {
-        io::write_all(STDERR_FILENO, b"the fields could not be written\n");
+    if !put(rt, n, lent) {
+        let _ = rt.eprintln("the fields could not be written");
     }
 }
 
 // Says a refusal by its number, and leaves the line open.
-fn say(why: Refusal) {
-    io::write_all(STDERR_FILENO, b"refused ");
-    io::print_decimal(STDERR_FILENO, calls::number(why) as u64);
+fn say(rt: &impl Eprint, why: Refusal) {
+    let _ = rt.eprint("refused ");
+    let _ = rt.eprint(calls::number(why));
 }
 
 // Says a refusal that has no place.
-fn refuse(why: Refusal) {
-    say(why);
-    io::write_all(STDERR_FILENO, b"\n");
+fn refuse(rt: &impl Eprint, why: Refusal) {
+    say(rt, why);
+    let _ = rt.eprint("\n");
 }
 
 // Says a refusal and its place in the text.
-fn refuse_at(why: Refusal, place: usize) {
-    say(why);
-    io::write_all(STDERR_FILENO, b" at ");
-    io::print_decimal(STDERR_FILENO, place as u64);
-    io::write_all(STDERR_FILENO, b"\n");
+fn refuse_at(rt: &impl Eprint, why: Refusal, place: usize) {
+    say(rt, why);
+    let _ = rt.eprint(" at ");
+    let _ = rt.eprintln(place);
 }
 
 // Gives the fields of the tree of n taxa that a text is, or refuses it. The
 // room is that of the largest table, so 11 does not arise.
-fn turn(n: usize, text: &[u8]) {
+fn turn(rt: &(impl Print + Eprint), n: usize, text: &[u8]) {
     let mut lent = [0u8; 250];
     match newick_reader::read_newick(n, text, &mut lent) {
-        Reading::Table => give(n, &lent),
-        Reading::Refused(why) => refuse(why),
-        Reading::RefusedAt(why, place) => refuse_at(why, place),
+        Reading::Table => give(rt, n, &lent),
+        Reading::Refused(why) => refuse(rt, why),
+        Reading::RefusedAt(why, place) => refuse_at(rt, why, place),
     }
 }
 
 // Takes the input apart: n in its first line, and the text after the line
 // feed.
-fn answer(input: &[u8]) {
-    let end = bytes::scan::find(input, 0, input.len(), FEED);
-    if end == input.len() {
-        refuse(Refusal::Count);
-        return;
+fn answer(rt: &(impl Print + Eprint), input: &[u8]) {
+    match input.iter().position(|b| *b == FEED) {
+        Some(end) => turn(rt, taxa_in(&input[0..end]), &input[end + 1..]),
+        None => refuse(rt, Refusal::Count),
     }
-    turn(taxa_in(&input[0..end]), &input[end + 1..]);
 }
 
 // Answers the input where it was read whole; a failure is said on standard
-// error, since a program has no exit status. At most 65,536 bytes are read.
-// The text of 64 taxa is far shorter, so a longer one is refused at a byte
-// among those that were read.
-fn main() {
-    let mut input = io::large_buffer();
-    let got = io::read_full(STDIN_FILENO, &mut input);
-    if !whole_input::whole(got) {
-        io::write_all(STDERR_FILENO, b"the text could not be read\n");
+// error, and the status is 0 all the same. At most 65,536 bytes are read. The
+// text of 64 taxa is far shorter, so a longer one is refused at a byte among
+// those that were read.
+fn main(rt: HostRuntime) {
+    let mut stdin = rt.stdin();
+    let mut input = [0u8; whole_input::ROOM];
+    let got = whole_input::read_full(&mut stdin, &mut input);
+    if !whole_input::whole(&mut stdin, got) {
+        let _ = rt.eprintln("the text could not be read");
         return;
     }
-    answer(&input[..got]);
+    answer(&rt, &input[..got]);
 }

@@ -6,19 +6,19 @@ use case_prints::{line, tell};
 use splits::Compared;
 
 // Says a distance, or the refusal.
-fn answered(answer: Compared) {
+fn answered(rt: &impl Print, answer: Compared) {
     match answer {
-        Compared::Apart(d, _) => tell(d as u64, b"apart, "),
-        Compared::Refused(why) => tell(calls::number(why) as u64, b"refused, "),
+        Compared::Apart(d, _) => tell(rt, d as u64, b"apart, "),
+        Compared::Refused(why) => tell(rt, calls::number(why) as u64, b"refused, "),
     }
 }
 
 // A line for the tree of a text, read into what is lent, and that of a table.
-fn compared(l: &[u8], text: &[u8], lent: &mut [u8], other: &[u8]) {
+fn compared(rt: &impl Print, l: &[u8], text: &[u8], lent: &mut [u8], other: &[u8]) {
     let n = size(l, 1);
     newick_reader::read_newick(n, text, lent);
-    answered(splits::compare(n, lent, other, number(word(l, 4))));
-    line(title(l, 5));
+    answered(rt, splits::compare(n, lent, other, number(word(l, 4))));
+    line(rt, title(l, 5));
 }
 
 // Room for the table of a case.
@@ -27,19 +27,19 @@ fn room<'a>(l: &[u8], t: &'a mut [u8]) -> &'a mut [u8] {
 }
 
 // A case `table TAXA TEXT TABLE PARTITION TITLE`.
-pub fn table(l: &[u8], text: &[u8], other: &[u8]) {
+pub fn table(rt: &impl Print, l: &[u8], text: &[u8], other: &[u8]) {
     let mut t = [MARK; ROOM];
-    compared(l, text, room(l, &mut t), other);
+    compared(rt, l, text, room(l, &mut t), other);
 }
 
 // The same with the table of a second text, read into what is lent.
-fn both(l: &[u8], text: &[u8], other: &[u8], lent: &mut [u8]) {
+fn both(rt: &impl Print, l: &[u8], text: &[u8], other: &[u8], lent: &mut [u8]) {
     newick_reader::read_newick(size(l, 1), other, lent);
-    table(l, text, lent);
+    table(rt, l, text, lent);
 }
 
 // A case `beside TAXA TEXT TEXT PARTITION TITLE`.
-pub fn beside(l: &[u8], text: &[u8], other: &[u8]) {
+pub fn beside(rt: &impl Print, l: &[u8], text: &[u8], other: &[u8]) {
     let mut t = [MARK; ROOM];
-    both(l, text, other, room(l, &mut t));
+    both(rt, l, text, other, room(l, &mut t));
 }

@@ -36,54 +36,54 @@ fn alone(n: usize, t: &[u8], m: Move) -> u64 {
 
 // Says the number that each of the three calls about a move gives; whether the
 // list that is lent to one is as it was.
-fn three(n: usize, t: &mut [u8], ys: &[u64], m: Move) -> bool {
+fn three(rt: &impl Print, n: usize, t: &mut [u8], ys: &[u64], m: Move) -> bool {
     let mut out = [MARK; 2];
-    tell(applied(n, t, m), b"applied, ");
-    tell(judged(n, t, ys, m, &mut out), b"judged, ");
-    tell(alone(n, t, m), b"alone, table ");
+    tell(rt, applied(n, t, m), b"applied, ");
+    tell(rt, judged(n, t, ys, m, &mut out), b"judged, ");
+    tell(rt, alone(n, t, m), b"alone, table ");
     all_marks(&out)
 }
 
 // The same for the move and the two partitions of a case.
-fn calls_of(l: &[u8], n: usize, t: &mut [u8]) -> bool {
+fn calls_of(rt: &impl Print, l: &[u8], n: usize, t: &mut [u8]) -> bool {
     let mut ys = [0u64; 2];
     numbers(word(l, 3), &mut ys);
-    three(n, t, &ys, four(word(l, 4)))
+    three(rt, n, t, &ys, four(word(l, 4)))
 }
 
 // A case `refuse TAXA TABLE PARTITIONS MOVE TITLE`, on its table, of which
 // there is a copy.
-fn refuse(l: &[u8], copy: &[u8], t: &mut [u8]) {
-    let list = calls_of(l, size(l, 1), t);
-    kept(check::same(copy, t));
-    put(b"list ");
-    kept(list);
-    line(title(l, 5));
+fn refuse(rt: &impl Print, l: &[u8], copy: &[u8], t: &mut [u8]) {
+    let list = calls_of(rt, l, size(l, 1), t);
+    kept(rt, *copy == *t);
+    put(rt, b"list ");
+    kept(rt, list);
+    line(rt, title(l, 5));
 }
 
 // Runs the case in a line.
-fn case(input: &[u8], l: &[u8]) {
+fn case(rt: &impl Print, input: &[u8], l: &[u8]) {
     let mut t = [0u8; LONG];
     let long = bytes(input, word(l, 2), &mut t);
     let copy = t;
-    refuse(l, first(&copy, long), first_mut(&mut t, long));
+    refuse(rt, l, first(&copy, long), first_mut(&mut t, long));
 }
 
 // Runs the cases in their order.
-fn run(input: &[u8]) {
+fn run(rt: &impl Print, input: &[u8]) {
     let m = case_lines::lines(input);
     let mut k: usize = 0;
     while k < m {
         let l = case_lines::line(input, k);
         if case_lines::is_case(l) {
-            case(input, l);
+            case(rt, input, l);
         }
         k += 1;
     }
 }
 
 // Reads the cases and runs them.
-fn main() {
-    let mut input = io::large_buffer();
-    run(case_lines::read(&mut input));
+fn main(rt: HostRuntime) {
+    let mut input = [0u8; whole_input::ROOM];
+    run(&rt, case_lines::read(&mut rt.stdin(), &mut input));
 }

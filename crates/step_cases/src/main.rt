@@ -12,29 +12,29 @@ use job_steps::{State, Stepped};
 const MARK: u8 = 200;
 
 // Says a step's answer.
-fn tell(answer: Stepped) {
+fn tell(rt: &impl Print, answer: Stepped) {
     match answer {
         Stepped::Next { state, wrote } => {
-            put(b"next at ");
-            say(state.at as u64);
-            put(b"with ");
-            say(wrote as u64);
-            line(b"bytes of lines");
+            put(rt, b"next at ");
+            say(rt, state.at as u64);
+            put(rt, b"with ");
+            say(rt, wrote as u64);
+            line(rt, b"bytes of lines");
         }
-        Stepped::Ended => line(b"ended"),
+        Stepped::Ended => line(rt, b"ended"),
         Stepped::Refused { why, place } => {
-            put(b"refused ");
-            say(calls::number(why) as u64);
-            put(b"at ");
-            number(place as u64);
-            line(b"");
+            put(rt, b"refused ");
+            say(rt, calls::number(why) as u64);
+            put(rt, b"at ");
+            number(rt, place as u64);
+            line(rt, b"");
         }
     }
 }
 
 // The step over the field at 4, after the count of six taxa, with these marked
 // bytes lent for the table.
-fn lend(words: &[u8], job: &[u8], table: &mut [u8]) {
+fn lend(rt: &impl Print, words: &[u8], job: &[u8], table: &mut [u8]) {
     let mut parts = [0u64; 64];
     let mut out = [0u8; 64];
     let s = State {
@@ -43,42 +43,42 @@ fn lend(words: &[u8], job: &[u8], table: &mut [u8]) {
         parts: 0,
         moves: 0,
     };
-    put(words);
-    put(b", ");
-    say(table.len() as u64);
-    put(b"bytes lent: ");
+    put(rt, words);
+    put(rt, b", ");
+    say(rt, table.len() as u64);
+    put(rt, b"bytes lent: ");
     let answer = job::step(job, s, table, &mut parts, &mut out);
-    kept(marked(table, MARK, 0));
-    tell(answer);
+    kept(rt, marked(table, MARK, 0));
+    tell(rt, answer);
 }
 
 // A case `step ROOM BYTES TITLE`.
-fn on_job(l: &[u8], job: &[u8]) {
+fn on_job(rt: &impl Print, l: &[u8], job: &[u8]) {
     let mut table = [MARK; job_steps::TABLE];
-    lend(title(l, 3), job, first_mut(&mut table, size(l, 1)));
+    lend(rt, title(l, 3), job, first_mut(&mut table, size(l, 1)));
 }
 
 // Runs the case in a line.
-fn case(input: &[u8], l: &[u8]) {
+fn case(rt: &impl Print, input: &[u8], l: &[u8]) {
     let mut j = [0u8; LONG];
-    on_job(l, given(input, word(l, 2), &mut j));
+    on_job(rt, l, given(input, word(l, 2), &mut j));
 }
 
 // Runs the cases in their order.
-fn run(input: &[u8]) {
+fn run(rt: &impl Print, input: &[u8]) {
     let m = case_lines::lines(input);
     let mut k: usize = 0;
     while k < m {
         let l = case_lines::line(input, k);
         if case_lines::is_case(l) {
-            case(input, l);
+            case(rt, input, l);
         }
         k += 1;
     }
 }
 
 // Reads the cases and runs them.
-fn main() {
-    let mut input = io::large_buffer();
-    run(case_lines::read(&mut input));
+fn main(rt: HostRuntime) {
+    let mut input = [0u8; whole_input::ROOM];
+    run(&rt, case_lines::read(&mut rt.stdin(), &mut input));
 }

@@ -1,18 +1,17 @@
 // Reads a job on standard input and writes its listing on standard output.
 #![tactic(auto)]
 
-use libc::{STDERR_FILENO, STDIN_FILENO};
-
 // Lists the job where it was read whole; a failure is said on standard error,
-// since a program has no exit status.
-fn main() {
-    let mut input = io::large_buffer();
-    let got = io::read_full(STDIN_FILENO, &mut input);
-    if !whole_input::whole(got) {
-        io::write_all(STDERR_FILENO, b"the job could not be read\n");
+// and the status is 0 all the same.
+fn main(rt: HostRuntime) {
+    let mut stdin = rt.stdin();
+    let mut input = [0u8; whole_input::ROOM];
+    let got = whole_input::read_full(&mut stdin, &mut input);
+    if !whole_input::whole(&mut stdin, got) {
+        let _ = rt.eprintln("the job could not be read");
         return;
     }
-    if !listing_writer::list(&input[..got]) {
-        io::write_all(STDERR_FILENO, b"the listing could not be written\n");
+    if !listing_writer::list(&rt, &input[..got]) {
+        let _ = rt.eprintln("the listing could not be written");
     }
 }
