@@ -10,7 +10,7 @@ use Rattle.job_steps.specs.Runs.{first}
 use Rattle.job_steps.specs.declared.State.{State}
 use Rattle.tusvlane.specs.declared.Comparison.{Comparison}
 use Rattle.tusvlane.specs.declared.Placed.{Placed}
-use Rattle.tusvlane.specs.Answers.{stepAnswerOf}
+use Rattle.tusvlane.specs.Answers.{step_answer_of}
 
 -- The call beneath answers b, which is q; a is what q says in the numbers of a
 -- C struct.
@@ -38,12 +38,12 @@ compared_as = ap (λ (i : ℕ). record { refusal = i; distance = 0; missing = 0 
 -- The answer with the first state for the next is that of the end, or of a
 -- refusal.
 pub ended_is : {s : State} → s ≡ first
-    → record { refusal = 0; ended = 1; place = 0; wrote = 0; next = s } ≡ stepAnswerOf (gives ended)
+    → record { refusal = 0; ended = 1; place = 0; wrote = 0; next = s } ≡ step_answer_of (gives ended)
 ended_is z = ap (λ (x : State). record { refusal = 0; ended = 1; place = 0; wrote = 0; next = x }) z
 
 pub stopped_is : {j : ℕ} (k : Refusal) (p : ℕ) {s : State} → j ≡ number_of k → s ≡ first
     → record { refusal = j; ended = 0; place = p; wrote = 0; next = s }
-    ≡ stepAnswerOf (refuses_at k p)
+    ≡ step_answer_of (refuses_at k p)
 stopped_is k p e z =
     ap₂ (λ (i : ℕ) (x : State). record { refusal = i; ended = 0; place = p; wrote = 0; next = x }) e
     z

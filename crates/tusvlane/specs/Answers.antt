@@ -16,8 +16,8 @@ abbrev pub answer_of : Said ℕ → Answer
 answer_of s = record { refusal = code_of s; value = value_of (λ k. k) s }
 
 -- A refusal or 0, the distance and the missing split.
-abbrev pub comparisonOf : Said (ℕ × ℕ) → Comparison
-comparisonOf s =
+abbrev pub comparison_of : Said (ℕ × ℕ) → Comparison
+comparison_of s =
     record {
       refusal = code_of s;
       distance = value_of (λ w. w.0) s;
@@ -30,24 +30,24 @@ placed_of s = record { refusal = code_of s; place = place_of s }
 
 -- Of what a step tells: 1 where the job is over; how many bytes of lines; and
 -- the next state, which is the first where there is none.
-abbrev pub isEnd : Told → ℕ
-isEnd (told t w) = 0
-isEnd ended = 1
+abbrev pub is_end : Told → ℕ
+is_end (told t w) = 0
+is_end ended = 1
 
-abbrev pub wroteOf : Told → ℕ
-wroteOf (told t w) = w
-wroteOf ended = 0
+abbrev pub wrote_of : Told → ℕ
+wrote_of (told t w) = w
+wrote_of ended = 0
 
 abbrev pub next_of : Told → State
 next_of (told t w) = t
 next_of ended = first
 
-abbrev pub stepAnswerOf : Said Told → StepAnswer
-stepAnswerOf s =
+abbrev pub step_answer_of : Said Told → StepAnswer
+step_answer_of s =
     record {
       refusal = code_of s;
-      ended = value_of isEnd s;
+      ended = value_of is_end s;
       place = place_of s;
-      wrote = value_of wroteOf s;
+      wrote = value_of wrote_of s;
       next = given_or first next_of s;
     }

@@ -16,7 +16,7 @@ use Rattle.tusvlane.specs.declared.Answer.{Answer}
 use Rattle.tusvlane.specs.declared.Comparison.{Comparison}
 use Rattle.tusvlane.specs.declared.Placed.{Placed}
 use Rattle.tusvlane.specs.declared.StepAnswer.{StepAnswer}
-use Rattle.tusvlane.specs.Answers.{answer_of, comparisonOf, placed_of, stepAnswerOf}
+use Rattle.tusvlane.specs.Answers.{answer_of, comparison_of, placed_of, step_answer_of}
 
 -- tusvlane_check_tree: 0, or a refusal.
 abbrev pub Checks : ℕ → List ℕ → ℕ → Type 0
@@ -30,7 +30,7 @@ Induces n t y out r out' =
 
 -- tusvlane_compare: the distance and the missing split.
 abbrev pub Compares : ℕ → List ℕ → List ℕ → ℕ → Comparison → Type 0
-Compares n t u y r = Answers comparisonOf (compared_said n t u y) r
+Compares n t u y r = Answers comparison_of (compared_said n t u y) r
 
 -- tusvlane_apply_move: 0 and the moved table in place of the lent one, or a
 -- refusal.
@@ -65,4 +65,4 @@ Plants n s out r out' =
 -- tusvlane_step: what is told of the outcome, and the lent memory after it.
 abbrev pub Steps : List ℕ → State → Lent → StepAnswer → Lent → Type 0
 Steps job s m r m' =
-    Call (λ o. stepAnswerOf (tells told_of o)) lent_by (stepped job s m) m r m'
+    Call (λ o. step_answer_of (tells told_of o)) lent_by (stepped job s m) m r m'
