@@ -18,4 +18,11 @@ put-requires-2 c =
 
 pub returns : goal.returns
 unfolding nni
-returns c = cc
+returns c =
+    rw (
+      ← c.end_on-p.ensures,
+      ← c.far-q.ensures,
+      ← c.far-u.ensures,
+      ← c.far-v.ensures,
+      ← c.put.ensures,
+    ) c.put-2.ensures
