@@ -80,8 +80,8 @@ pub fn first_lacking(a: &[u64], b: &[u64]) -> u64
 
 // How many numbers of a are not on b, where both ascend.
 pub fn count_lacking(a: &[u64], b: &[u64]) -> usize
-    requires asc { Asc a.now }
-    requires asc_2 { Asc b.now }
+    requires a_ascends { Asc a.now }
+    requires b_ascends { Asc b.now }
     ensures { result ≡ lists_spec.lacks a.now b.now }
 {
     let mut both = 0;

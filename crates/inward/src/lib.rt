@@ -13,7 +13,7 @@ ghost use Rattle.inward.specs.Search.{mixed, Mixed, Climbs, Comes, Climbed};
 
 // How a row comes to a node: as the first there; as the second, and then the
 // third leads on; or two came before it.
-#[derive(Drop)]
+#[derive(Clone, Copy)]
 enum Came {
     First,
     Second(u8),
@@ -22,7 +22,7 @@ enum Came {
 
 // Where the way inward from a taxon ends: how many nodes are then in the
 // order, or that the table is no tree.
-#[derive(Drop)]
+#[derive(Clone, Copy)]
 enum Way {
     To(usize),
     Ring,

@@ -30,7 +30,7 @@ pub struct State {
 
 // The answer of a step: the next state and how many bytes of lines were
 // written; that the job is over; or a refusal and its place.
-#[derive(Drop)]
+#[derive(Clone, Copy)]
 pub enum Stepped {
     Next { state: State, wrote: usize },
     Ended,

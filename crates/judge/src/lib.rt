@@ -19,14 +19,14 @@ use move_plan::{Entry, Fitted, Move};
 use moves::Plan;
 
 // The answer of a move alone.
-#[derive(Drop)]
+#[derive(Clone, Copy)]
 pub enum Moved {
     Done,
     Refused(Refusal),
 }
 
 // The answer of a move judged for a list of partitions: how many are the same.
-#[derive(Drop)]
+#[derive(Clone, Copy)]
 pub enum Judged {
     Same(usize),
     Refused(Refusal),
@@ -34,7 +34,7 @@ pub enum Judged {
 
 // The answer of a move judged for one partition: its distance, 0 where it is
 // the same.
-#[derive(Drop)]
+#[derive(Clone, Copy)]
 pub enum Verdict {
     Distance(u64),
     Refused(Refusal),

@@ -16,7 +16,7 @@ use moves::Side;
 pub const ROOM: usize = taxa::MOST;
 
 // A step of a way: the row that leads on, and the taxa beyond the other.
-#[derive(Drop)]
+#[derive(Clone, Copy)]
 struct Step {
     on: usize,
     off: u64,

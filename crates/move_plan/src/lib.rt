@@ -28,14 +28,14 @@ pub struct Move {
 }
 
 // What a test found: that it fits, or why not.
-#[derive(Drop)]
+#[derive(Clone, Copy)]
 pub enum Fitted {
     Fits,
     Refused(Refusal),
 }
 
 // What was found of a move: its plan, or why it is refused.
-#[derive(Drop)]
+#[derive(Clone, Copy)]
 pub enum Entry {
     Opens(Plan),
     Refused(Refusal),

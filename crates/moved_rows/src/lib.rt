@@ -27,7 +27,7 @@ fn put(t: &mut [u8], r: usize, u: usize, v: usize)
 
 // The end that row x has on row e.
 fn end_on(t: &[u8], e: usize, x: usize) -> usize
-    requires { let t = t.now in (HasRow t e) × (HasRow t x) }
+    requires { let t = t.old in (HasRow t e) × (HasRow t x) }
     ensures { result ≡ end_on t.now e x }
 {
     let v = table::lo(t, e);
@@ -39,7 +39,7 @@ fn end_on(t: &[u8], e: usize, x: usize) -> usize
 
 // The NNI edit: rows x and y exchange the ends that they have on row e.
 fn exchange(t: &mut [u8], e: usize, x: usize, y: usize)
-    requires { let t = t.now in (HasRow t e) × (HasRow t x) × (HasRow t y) }
+    requires { let t = t.old in (HasRow t e) × (HasRow t x) × (HasRow t y) }
     ensures { t.new ≡ nni t.old e x y }
 {
     let p = end_on(t, e, x);
@@ -53,7 +53,7 @@ fn exchange(t: &mut [u8], e: usize, x: usize, y: usize)
 // Rows f and g at node p become one row f between their far ends, and row b
 // becomes two rows through p: b and g.
 fn put_end(t: &mut [u8], p: usize, f: usize, g: usize, b: usize)
-    requires { let t = t.now in (HasRow t f) × (HasRow t g) × (HasRow t b) × (p < 256) }
+    requires { let t = t.old in (HasRow t f) × (HasRow t g) × (HasRow t b) × (p < 256) }
     ensures { t.new ≡ put_end t.old p f g b }
 {
     let r = table::far(t, f, p);

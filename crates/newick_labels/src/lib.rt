@@ -7,7 +7,7 @@ ghost use Rattle.newick_labels.specs.Between.{value_at, begun, LabelIs};
 
 // A label that was read, and the place after it; or the place of the byte at
 // which no label goes on.
-#[derive(Drop)]
+#[derive(Clone, Copy)]
 pub enum Label {
     Taxon(usize, usize),
     Bad(usize),

@@ -17,7 +17,7 @@ pub const TABLE: usize = 250;
 
 // Where the reader is: the place in the text, the number of the next group to
 // close, and the taxa read.
-#[derive(Drop)]
+#[derive(Clone, Copy)]
 pub struct Cursor {
     pub at: usize,
     pub next: usize,
@@ -26,7 +26,7 @@ pub struct Cursor {
 
 // A member that was read: where the reader is after it, and its node; or the
 // place of the byte at which no tree goes on.
-#[derive(Drop)]
+#[derive(Clone, Copy)]
 pub enum Got {
     Node(Cursor, usize),
     Bad(usize),

@@ -13,7 +13,7 @@ ghost use Rattle.newick_outer.specs.Between.{One, Two, EndIs, ParsedIs};
 use newick_members::{Cursor, Got, TABLE, ahead, is_at, join, member};
 
 // Whether the whole text is a tree; or the place as above.
-#[derive(Drop)]
+#[derive(Clone, Copy)]
 pub enum Parsed {
     Whole,
     Bad(usize),

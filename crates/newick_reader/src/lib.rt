@@ -13,7 +13,7 @@ use newick_outer::Parsed;
 
 // The answer of the call: the table is written; or a refusal; or one with its
 // place in the text.
-#[derive(Drop)]
+#[derive(Clone, Copy)]
 pub enum Reading {
     Table,
     Refused(Refusal),

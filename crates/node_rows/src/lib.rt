@@ -14,7 +14,7 @@ pub const PLACES: usize = 504;
 pub const FREE: u8 = 255;
 
 // Two rows.
-#[derive(Drop)]
+#[derive(Clone, Copy)]
 pub struct Two {
     pub f: usize,
     pub g: usize,

@@ -16,7 +16,7 @@ use calls::Refusal;
 use table::Checked;
 
 // The answer of a call for induced splits: how many numbers were written.
-#[derive(Drop)]
+#[derive(Clone, Copy)]
 pub enum Induced {
     Count(usize),
     Refused(Refusal),
@@ -24,7 +24,7 @@ pub enum Induced {
 
 // The answer of a comparison: the distance, and the smallest number that the
 // second tree lacks, or 0.
-#[derive(Drop)]
+#[derive(Clone, Copy)]
 pub enum Compared {
     Apart(usize, u64),
     Refused(Refusal),

@@ -15,7 +15,7 @@ use calls::Refusal;
 const NODES: usize = 126;
 
 // What a check of a table says.
-#[derive(Drop)]
+#[derive(Clone, Copy)]
 pub enum Checked {
     Tree,
     Refused(Refusal),

@@ -23,7 +23,7 @@ use table::Checked;
 
 // A refusal or 0, and one number.
 #[repr(C)]
-#[derive(Drop)]
+#[derive(Clone, Copy)]
 pub struct Answer {
     pub refusal: u64,
     pub value: u64,
@@ -32,7 +32,7 @@ pub struct Answer {
 // A refusal or 0, the distance, and the smallest number that the second tree
 // lacks.
 #[repr(C)]
-#[derive(Drop)]
+#[derive(Clone, Copy)]
 pub struct Comparison {
     pub refusal: u64,
     pub distance: u64,
@@ -41,7 +41,7 @@ pub struct Comparison {
 
 // A refusal or 0, and its place in a text.
 #[repr(C)]
-#[derive(Drop)]
+#[derive(Clone, Copy)]
 pub struct Placed {
     pub refusal: u64,
     pub place: usize,
@@ -50,7 +50,7 @@ pub struct Placed {
 // A step's refusal or 0 and its place, whether the job is over, how many bytes
 // of lines were written, and the next state.
 #[repr(C)]
-#[derive(Drop)]
+#[derive(Clone, Copy)]
 pub struct StepAnswer {
     pub refusal: u64,
     pub ended: u64,

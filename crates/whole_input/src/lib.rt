@@ -5,7 +5,7 @@ ghost use Rattle.std.specs.Prelude.{◌≡◌, ◌≤◌, length, true};
 
 use std::io::Read;
 
-// How many bytes the large buffer has, one more than a job may have.
+// How many bytes are lent for an input, one more than a job may have.
 pub const ROOM: usize = 65536;
 
 // Reads until the buffer is full, the input ends or a read fails; how many

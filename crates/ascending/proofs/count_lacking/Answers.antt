@@ -8,7 +8,7 @@ use Rattle.ascending.proofs.count_lacking.Goals.{then-loop-i-test+else-j-b, else
 
 pub loop-i-preserved-then-y-x : goal.loop-i-preserved-then-y-x
 loop-i-preserved-then-y-x c =
-    compared_pass c.loop-i.invariant c.loop-i-test.true c.if-j-b.true c.requires.asc c.if-y-x.true
+    compared_pass c.loop-i.invariant c.loop-i-test.true c.if-j-b.true c.requires.a_ascends c.if-y-x.true
 
 pub loop-i-preserved : goal.loop-i-preserved
 loop-i-preserved c =
@@ -16,7 +16,7 @@ loop-i-preserved c =
     let in_a = c.loop-i-test.true in
     elim c.if-y-x-2.branch [
       | then-y-x-2 w ↦ compared_both inv in_a c.if-j-b.true w.if-y-x-2.true w.both-is
-      | else-y-x-2 w ↦ compared_lone inv in_a c.if-j-b.true c.requires.asc_2 (omega arith) w.both-is
+      | else-y-x-2 w ↦ compared_lone inv in_a c.if-j-b.true c.requires.b_ascends (omega arith) w.both-is
     ]
 
 pub returns : goal.returns

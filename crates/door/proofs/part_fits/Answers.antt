@@ -1,7 +1,6 @@
 -- `door::part_fits` meets its contract.
 use mathlib.Core.Path.{◌≡◌, sym, ◌∙◌}
 use mathlib.Core.Bool.{true}
-use Rattle.taxa.proofs.Bools.{told_true}
 use Rattle.door.specs.Between.{counted}
 use Rattle.door.proofs.PartitionLaws.{part_right, part_6}
 use Rattle.door.proofs.part_fits.Goals.{Else-not-counted}
@@ -9,7 +8,7 @@ use Rattle.door.proofs.part_fits.Goals as goal
 
 -- past the first test n is a number of taxa
 number : (c : Else-not-counted) → counted c.args.n ≡ true
-number c = told_true c.counted.ensures c.if-not-counted.false-raw
+number c = sym c.counted.ensures ∙ c.if-not-counted.false
 
 pub returns-then-within : goal.returns-then-within
 returns-then-within c =

@@ -10,15 +10,15 @@ use Rattle.door.proofs.parts_fit.Goals as goal
 
 -- past the first test n is a number of taxa
 number : (c : Else-not-counted) → counted c.args.n ≡ true
-number c = told_true c.counted.ensures c.if-not-counted.false-raw
+number c = sym c.counted.ensures ∙ c.if-not-counted.false
 
 -- past the second the union is that of a list with as many partitions as it may
 united : (c : After-union-all)
     → let a = c.args in
     United a.n a.ys.now c.union-all.result
 united c = record {
-  number = told_true c.counted.ensures c.if-not-counted.false-raw;
-  right = told_true c.count_right.ensures c.if-not-count_right.false-raw;
+  number = sym c.counted.ensures ∙ c.if-not-counted.false;
+  right = sym c.count_right.ensures ∙ c.if-not-count_right.false;
   is = c.union-all.ensures;
 }
 
@@ -30,16 +30,16 @@ returns-then-not-count_right c =
 pub returns-then-not-within : goal.returns-then-not-within
 returns-then-not-within c =
     union_6 (united (goal.at.returns-then-not-within c).After-union-all)
-    (told_false c.within.ensures c.if-not-within.true-raw)
+    (sym c.within.ensures ∙ c.if-not-within.true)
 
 pub returns-then-covers : goal.returns-then-covers
 returns-then-covers c =
     union_right (united (goal.at.returns-then-covers c).After-union-all)
-    (told_true c.within.ensures c.if-not-within.false-raw)
+    (sym c.within.ensures ∙ c.if-not-within.false)
     (sym c.covers.ensures ∙ c.if-covers.true)
 
 pub returns : goal.returns
 returns c =
     union_16 (united (goal.at.returns c).After-union-all)
-    (told_true c.within.ensures c.if-not-within.false-raw)
+    (sym c.within.ensures ∙ c.if-not-within.false)
     (sym c.covers.ensures ∙ c.if-covers.false)

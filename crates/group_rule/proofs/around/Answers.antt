@@ -1,5 +1,5 @@
--- `group_rule::around` meets its contract: four are met exactly where both pairs
--- are.
+-- `group_rule::around` meets its contract: four are met exactly where both
+-- pairs are.
 use Rattle.group_rule.proofs.Judging.{four_met}
 use Rattle.group_rule.proofs.around.Goals as goal
 

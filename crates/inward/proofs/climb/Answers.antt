@@ -11,6 +11,7 @@ use Rattle.inward.proofs.Outward.{no_taxon, not_again}
 use Rattle.inward.proofs.climb.Goals.{Else-w-n, In-Second}
 use Rattle.inward.proofs.climb.Goals as goal
 
+-- past both tests row r comes to an inner node
 arrives : (c : Else-w-n)
     → let l = c.loop-n in
     let g = c.args in

@@ -1,6 +1,6 @@
 -- `job::read_next` meets its contract.
+use mathlib.Core.Path.{sym, ◌∙◌}
 use Rattle.calls.proofs.CallLaws.{call-is}
-use Rattle.taxa.proofs.Bools.{told_true, told_false}
 use Rattle.job_steps.specs.Steps.{lending}
 use Rattle.job_steps.proofs.StepLaws.{gives-refused}
 use Rattle.job.proofs.FieldSteps.{end_gives, AtField, tag_16, tag_12, tag_next}
@@ -21,17 +21,17 @@ pub returns-then-not-seen_before : goal.returns-then-not-seen_before
 returns-then-not-seen_before c =
     gives-refused c.unseen.result c.unseen.ensures
     (tag_16 (at_field (goal.at.returns-then-not-seen_before c).Else-job-at)
-    (told_false c.seen_before.ensures c.if-not-seen_before.true-raw))
+    (sym c.seen_before.ensures ∙ c.if-not-seen_before.true))
 
 pub returns-then-not-allowed : goal.returns-then-not-allowed
 returns-then-not-allowed c =
     tag_12 (at_field (goal.at.returns-then-not-allowed c).Else-job-at)
-    (told_true c.seen_before.ensures c.if-not-seen_before.false-raw)
-    (told_false c.allowed.ensures c.if-not-allowed.true-raw)
+    (sym c.seen_before.ensures ∙ c.if-not-seen_before.false)
+    (sym c.allowed.ensures ∙ c.if-not-allowed.true)
 
 pub returns : goal.returns
 returns c =
     call-is (tag_next (at_field (goal.at.returns c).Else-job-at)
-    (told_true c.seen_before.ensures c.if-not-seen_before.false-raw)
-    (told_true c.allowed.ensures c.if-not-allowed.false-raw))
+    (sym c.seen_before.ensures ∙ c.if-not-seen_before.false)
+    (sym c.allowed.ensures ∙ c.if-not-allowed.false))
     c.read_field.ensures

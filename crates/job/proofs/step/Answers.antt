@@ -10,7 +10,8 @@ use Rattle.job.proofs.step.Goals as goal
 
 -- what is said of the state, by the answer x
 says : (c : After-state_right-fit) {x : Fitted} → c.state_right-fit.result ≡ x
-    → StateSays c.args.job.now c.args.s (lending c.args.table.now c.args.parts.now c.args.out.now) (fitted_says x)
+    → let m = lending c.args.table.now c.args.parts.now c.args.out.now in
+    StateSays c.args.job.now c.args.s m (fitted_says x)
 says c e =
     record {
       short = c.if-job-gt-LONGEST.false;

@@ -1,5 +1,5 @@
 -- `job_reads::read_move` meets its contract.
-use Rattle.taxa.proofs.Bools.{told_true, told_false}
+use mathlib.Core.Path.{sym, ◌∙◌}
 use Rattle.move_plan.specs.Entries.{move_of}
 use Rattle.fields.proofs.FieldLaws.{Framed}
 use Rattle.job_steps.proofs.StepLaws.{MoveRead, move_12, refused-there, done-there}
@@ -10,7 +10,7 @@ use Rattle.job_reads.proofs.read_move.Goals as goal
 framed : (c : Else-not-length_right)
     → let a = c.args in
     Framed a.job.now a.s.at 4
-framed c = record { right = told_true c.length_right.ensures c.if-not-length_right.false-raw }
+framed c = record { right = sym c.length_right.ensures ∙ c.if-not-length_right.false }
 
 -- then the move is read, and the length of the table known
 read : (c : After-table_bytes-l)
@@ -21,7 +21,7 @@ read c =
     record {
       held = c.requires.2;
       past = c.requires.1;
-      framed = record { right = told_true c.length_right.ensures c.if-not-length_right.false-raw };
+      framed = record { right = sym c.length_right.ensures ∙ c.if-not-length_right.false };
       long = c.table_bytes-l.ensures;
       is = c.move_in-m.ensures;
     }
@@ -29,7 +29,7 @@ read c =
 pub returns-then-not-length_right : goal.returns-then-not-length_right
 returns-then-not-length_right c =
     let a = c.args in
-    move_12 a.job.now a.s (told_false c.length_right.ensures c.if-not-length_right.true-raw)
+    move_12 a.job.now a.s (sym c.length_right.ensures ∙ c.if-not-length_right.true)
 
 pub returns-in-Refused : goal.returns-in-Refused
 returns-in-Refused c =

@@ -1,5 +1,5 @@
 -- `job_reads::read_partition` meets its contract.
-use Rattle.taxa.proofs.Bools.{told_true, told_false}
+use mathlib.Core.Path.{sym, ◌∙◌}
 use Rattle.fields.proofs.FieldLaws.{Framed}
 use Rattle.job_reads.proofs.ReadLaws.{PartRead, part_12, part_6, part_11, part-next}
 use borrow.Author.Rules.{rules}
@@ -10,7 +10,7 @@ use Rattle.job_reads.proofs.read_partition.Goals as goal
 framed : (c : Else-not-length_right)
     → let a = c.args in
     Framed a.job.now a.s.at 8
-framed c = record { right = told_true c.length_right.ensures c.if-not-length_right.false-raw }
+framed c = record { right = sym c.length_right.ensures ∙ c.if-not-length_right.false }
 
 -- past the second test a partition is read
 read : (c : Else-not-within)
@@ -18,23 +18,23 @@ read : (c : Else-not-within)
     PartRead a.job.now a.s a.parts.now c.number_in-y.result
 read c =
     record {
-      framed = record { right = told_true c.length_right.ensures c.if-not-length_right.false-raw };
+      framed = record { right = sym c.length_right.ensures ∙ c.if-not-length_right.false };
       is = c.number_in-y.ensures;
-      bound = told_true c.within.ensures c.if-not-within.false-raw;
+      bound = sym c.within.ensures ∙ c.if-not-within.false;
       held = c.requires.3;
     }
 
 pub returns-then-not-length_right : goal.returns-then-not-length_right
 returns-then-not-length_right c =
     let a = c.args in
-    part_12 a.job.now a.s (told_false c.length_right.ensures c.if-not-length_right.true-raw)
+    part_12 a.job.now a.s (sym c.length_right.ensures ∙ c.if-not-length_right.true)
 
 pub returns-then-not-within : goal.returns-then-not-within
 returns-then-not-within c =
     let a = c.args in
     part_6 a.job.now a.s (framed (goal.at.returns-then-not-within c).Else-not-length_right)
     c.number_in-y.ensures
-    (told_false c.within.ensures c.if-not-within.true-raw)
+    (sym c.within.ensures ∙ c.if-not-within.true)
 
 pub returns-then-free-eq0 : goal.returns-then-free-eq0
 returns-then-free-eq0 c =

@@ -1,6 +1,5 @@
 -- `job_seen::read_end` meets its contract.
-use mathlib.Core.Path.{◌∙◌}
-use Rattle.taxa.proofs.Bools.{told_true, told_false}
+use mathlib.Core.Path.{◌∙◌, sym}
 use Rattle.job_seen.proofs.SeenLaws.{end_12, end_16, end_over}
 use Rattle.job_seen.proofs.read_end.Goals as goal
 
@@ -11,9 +10,9 @@ returns-then-s-eq0 c = end_12 c.requires c.if-s-eq0.true
 pub returns-then-not-seen_so_far : goal.returns-then-not-seen_so_far
 returns-then-not-seen_so_far c =
     c.unseen.ensures ∙ end_16 c.requires c.if-s-eq0.false
-    (told_false c.seen_so_far.ensures c.if-not-seen_so_far.true-raw)
+    (sym c.seen_so_far.ensures ∙ c.if-not-seen_so_far.true)
 
 pub returns : goal.returns
 returns c =
     end_over c.requires c.if-s-eq0.false c.args.long
-    (told_true c.seen_so_far.ensures c.if-not-seen_so_far.false-raw)
+    (sym c.seen_so_far.ensures ∙ c.if-not-seen_so_far.false)

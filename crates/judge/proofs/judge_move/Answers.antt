@@ -7,7 +7,8 @@ use Rattle.judge.proofs.SaidLaws.{judges_refused, judges_plan}
 use Rattle.judge.proofs.judge_move.Goals.{In-Opens}
 use Rattle.judge.proofs.judge_move.Goals as goal
 
--- where the door opens: the tree was looked at, the partitions pass, and the move has its plan
+-- where the door opens: the tree was looked at, the partitions pass, and the
+-- move has its plan
 opened : (c : In-Opens)
     → let a = c.args in
     let left = c.enter-entry.new in

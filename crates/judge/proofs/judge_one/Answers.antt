@@ -7,7 +7,8 @@ use Rattle.judge.proofs.SaidLaws.{one_refused, one_told, one_within}
 use Rattle.judge.proofs.judge_one.Goals.{In-Opens}
 use Rattle.judge.proofs.judge_one.Goals as goal
 
--- where the door opens: the tree was looked at, the partition passes, and the move has its plan
+-- where the door opens: the tree was looked at, the partition passes, and the
+-- move has its plan
 opened : (c : In-Opens)
     → let a = c.args in
     let left = c.enter-entry.new in

@@ -17,4 +17,6 @@ pub verdict_line-k-requires : goal.verdict_line-k-requires
 verdict_line-k-requires c = search (rules, line_part)
 
 pub loop-i-preserved : goal.loop-i-preserved
-loop-i-preserved c = (search rules, search (rules, line_then), omega (arith, short (goal.at.loop-i-preserved c).After-verdict_line-k))
+loop-i-preserved c =
+    let at = goal.at.loop-i-preserved c in
+    (search rules, search (rules, line_then), omega (arith, short at.After-verdict_line-k))

@@ -7,7 +7,9 @@ use Rattle.move_lines.proofs.put_verdicts.Given as goal
 
 abbrev pub invariant-loop-i : goal.invariant-loop-i
 invariant-loop-i l =
-    (l.i ≤ length l.ds) × Wrote length (verdict_lines l.m 1 (take l.i l.ds)) l.initial.out l.e l.out × (l.e ≤ 80 * l.i)
+    (l.i ≤ length l.ds)
+    × Wrote length (verdict_lines l.m 1 (take l.i l.ds)) l.initial.out l.e l.out
+    × (l.e ≤ 80 * l.i)
 
 abbrev pub decreases-loop-i : goal.decreases-loop-i
 decreases-loop-i l = length l.ds - l.i

@@ -9,6 +9,7 @@ use Rattle.move_plan.proofs.FitLaws.{either_way}
 use Rattle.move_plan.proofs.nni_fits.Goals.{Else-y-e}
 use Rattle.move_plan.proofs.nni_fits.Goals as goal
 
+-- past the tests of single rows, which ends two of them are at tells the rest
 ways : (c : Else-y-e)
     → let v = c.hi-v.result in
     let u = c.lo-u.result in
@@ -38,4 +39,5 @@ returns-then-at_both c =
 
 pub returns : goal.returns
 returns c =
-    rw (ways (goal.at.returns c).Else-y-e, ← c.at_both.ensures, c.if-at_both.false) c.at_both-2.ensures
+    let at = goal.at.returns c in
+    rw (ways at.Else-y-e, ← c.at_both.ensures, c.if-at_both.false) c.at_both-2.ensures

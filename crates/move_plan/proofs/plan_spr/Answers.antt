@@ -1,5 +1,5 @@
 -- `move_plan::plan_spr` meets its contract.
-use mathlib.Core.Path.{◌≡◌}
+use mathlib.Core.Path.{◌≡◌, sym, ◌∙◌}
 use mathlib.Core.Bool.{not, true}
 use mathlib.Core.List.{[], ◌∷◌}
 use Prim.Native.Nat.{◌<◌}
@@ -14,8 +14,9 @@ use borrow.Author.Rules.{rules}
 use Rattle.move_plan.proofs.plan_spr.Goals.{After-to_go-first, Else-not-all_rows}
 use Rattle.move_plan.proofs.plan_spr.Goals as goal
 
+-- past the first test both numbers are rows
 right : (c : Else-not-all_rows) → let a = c.args in all_rows a.n (a.a ∷ a.b ∷ 0 ∷ []) ≡ true
-right c = told_true c.all_rows.ensures c.if-not-all_rows.false-raw
+right c = sym c.all_rows.ensures ∙ c.if-not-all_rows.false
 
 two : (c : Else-not-all_rows)
     → let a = c.args in (a.a < rows a.n) × (a.b < rows a.n) × (0 < rows a.n)
@@ -29,11 +30,13 @@ goes c = cc
 
 pub returns-then-not-all_rows : goal.returns-then-not-all_rows
 unfolding judged
-returns-then-not-all_rows c = rw (← two-rows _ _ _, told_false c.all_rows.ensures c.if-not-all_rows.true-raw)
+returns-then-not-all_rows c = rw (← two-rows _ _ _, sym c.all_rows.ensures ∙ c.if-not-all_rows.true)
 
 pub returns-then-a-b : goal.returns-then-a-b
 unfolding judged
-returns-then-a-b c = rw (← two-rows _ _ _, right (goal.at.returns-then-a-b c).Else-not-all_rows, eq-eqb _ _ c.if-a-b.true)
+returns-then-a-b c =
+    let at = goal.at.returns-then-a-b c in
+    rw (← two-rows _ _ _, right at.Else-not-all_rows, eq-eqb _ _ c.if-a-b.true)
 
 pub end_with-p-requires : goal.end_with-p-requires
 end_with-p-requires c = search (rules, two (goal.at.end_with-p-requires c).Else-not-all_rows)
@@ -44,12 +47,13 @@ to_go-first-requires c = omega (arith, two (goal.at.to_go-first-requires c).Else
 pub returns-then-not-first : goal.returns-then-not-first
 unfolding judged
 returns-then-not-first c =
+    let at = goal.at.returns-then-not-first c in
     rw (
       ← two-rows _ _ _,
-      right (goal.at.returns-then-not-first c).Else-not-all_rows,
+      right at.Else-not-all_rows,
       ne_eqb _ _ c.if-a-b.false,
       ← c.end_with-p.ensures,
-      told_false (goes (goal.at.returns-then-not-first c).After-to_go-first) c.if-not-first.true,
+      told_false (goes at.After-to_go-first) c.if-not-first.true,
     )
 
 pub far-requires : goal.far-requires
@@ -58,13 +62,14 @@ far-requires c = omega (arith, two (goal.at.far-requires c).Else-not-all_rows)
 pub returns : goal.returns
 unfolding judged
 returns c =
+    let at = goal.at.returns c in
     rw (
       ← two-rows _ _ _,
-      right (goal.at.returns c).Else-not-all_rows,
+      right at.Else-not-all_rows,
       ne_eqb _ _ c.if-a-b.false,
       ← c.end_with-p.ensures,
       ← c.far.ensures,
       ← c.to_stay.ensures,
       ← c.to_go-first.ensures,
-      told_true (goes (goal.at.returns c).After-to_go-first) c.if-not-first.false,
+      told_true (goes at.After-to_go-first) c.if-not-first.false,
     )

@@ -1,11 +1,10 @@
 -- `move_plan::plan_tbr` meets its contract.
-use mathlib.Core.Path.{◌≡◌}
+use mathlib.Core.Path.{◌≡◌, sym, ◌∙◌}
 use mathlib.Core.Bool.{true}
 use mathlib.Core.List.{[], ◌∷◌}
 use Prim.Native.Nat.{◌<◌}
 use native.Mathlib.Omega.{arith}
 use Rattle.calls.specs.Calls.{judged}
-use Rattle.taxa.proofs.Bools.{told_true, told_false}
 use Rattle.tree.specs.Tree.{lo, hi, rows}
 use Rattle.moves.specs.Moves.{at_both, all_rows, targets}
 use Rattle.move_plan.proofs.FitLaws.{three-rows}
@@ -13,9 +12,10 @@ use borrow.Author.Rules.{rules}
 use Rattle.move_plan.proofs.plan_tbr.Goals.{After-at_both, Else-not-all_rows, Else-not-tbr_fits}
 use Rattle.move_plan.proofs.plan_tbr.Goals as goal
 
+-- past the first test all three numbers are rows
 right : (c : Else-not-all_rows)
     → let a = c.args in all_rows a.n (a.a ∷ a.b ∷ a.c ∷ []) ≡ true
-right c = told_true c.all_rows.ensures c.if-not-all_rows.false-raw
+right c = sym c.all_rows.ensures ∙ c.if-not-all_rows.false
 
 three : (c : Else-not-all_rows)
     → let a = c.args in (a.a < rows a.n) × (a.b < rows a.n) × (a.c < rows a.n)
@@ -25,7 +25,7 @@ three c = three-rows _ _ _ c.requires.good.valid.big (right c)
 fit : (c : Else-not-tbr_fits)
     → let a = c.args in
     targets a.n a.t.now a.a a.b a.c ≡ true
-fit c = told_true c.tbr_fits.ensures c.if-not-tbr_fits.false-raw
+fit c = sym c.tbr_fits.ensures ∙ c.if-not-tbr_fits.false
 
 -- the third test tells whether both targets touch their ends
 idle : (c : After-at_both)
@@ -36,7 +36,7 @@ idle c = cc
 
 pub returns-then-not-all_rows : goal.returns-then-not-all_rows
 unfolding judged
-returns-then-not-all_rows c = rw (told_false c.all_rows.ensures c.if-not-all_rows.true-raw)
+returns-then-not-all_rows c = rw (sym c.all_rows.ensures ∙ c.if-not-all_rows.true)
 
 pub tbr_fits-requires : goal.tbr_fits-requires
 tbr_fits-requires c = search (rules, three c)
@@ -44,7 +44,8 @@ tbr_fits-requires c = search (rules, three c)
 pub returns-then-not-tbr_fits : goal.returns-then-not-tbr_fits
 unfolding judged
 returns-then-not-tbr_fits c =
-    rw (right (goal.at.returns-then-not-tbr_fits c).Else-not-all_rows, told_false c.tbr_fits.ensures c.if-not-tbr_fits.true-raw)
+    let at = goal.at.returns-then-not-tbr_fits c in
+    rw (right at.Else-not-all_rows, sym c.tbr_fits.ensures ∙ c.if-not-tbr_fits.true)
 
 pub lo-u-requires : goal.lo-u-requires
 lo-u-requires c = omega (arith, three (goal.at.lo-u-requires c).Else-not-all_rows)
@@ -58,7 +59,13 @@ at_both-requires c = omega (arith, three (goal.at.at_both-requires c).Else-not-a
 pub returns-then-at_both : goal.returns-then-at_both
 unfolding judged
 returns-then-at_both c =
-    rw (right (goal.at.returns-then-at_both c).Else-not-all_rows, fit (goal.at.returns-then-at_both c).Else-not-tbr_fits, ← idle (goal.at.returns-then-at_both c).After-at_both, c.if-at_both.true)
+    let at = goal.at.returns-then-at_both c in
+    rw (
+      right at.Else-not-all_rows,
+      fit at.Else-not-tbr_fits,
+      ← idle at.After-at_both,
+      c.if-at_both.true,
+    )
 
 pub to_go-requires : goal.to_go-requires
 to_go-requires c = omega (arith, three (goal.at.to_go-requires c).Else-not-all_rows)
@@ -70,4 +77,10 @@ to_go-requires-2 c =
 pub returns : goal.returns
 unfolding judged
 returns c =
-    rw (right (goal.at.returns c).Else-not-all_rows, fit (goal.at.returns c).Else-not-tbr_fits, ← idle (goal.at.returns c).After-at_both, c.if-at_both.false) (cc)
+    let at = goal.at.returns c in
+    rw (
+      right at.Else-not-all_rows,
+      fit at.Else-not-tbr_fits,
+      ← idle at.After-at_both,
+      c.if-at_both.false,
+    ) (cc)

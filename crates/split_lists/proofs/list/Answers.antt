@@ -10,6 +10,7 @@ use Rattle.split_lists.proofs.ListLaws.{listed_room, listed_more}
 use Rattle.split_lists.proofs.list.Goals.{After-number-x}
 use Rattle.split_lists.proofs.list.Goals as goal
 
+-- past the call in the loop, the split of a row is known
 of_row : (c : After-number-x)
     → let a = c.args in
     c.number-x.result ≡ split a.n a.y (get_or a.sides.now c.loop-i.i 0)
@@ -30,10 +31,12 @@ number-x-requires c =
 
 pub add-len-requires : goal.add-len-requires
 add-len-requires c =
+    let at = goal.at.add-len-requires c in
     let l = c.loop-i.invariant in
-    (listed_fits l, listed_room l c.loop-i-test.true (of_row (goal.at.add-len-requires c).After-number-x))
+    (listed_fits l, listed_room l c.loop-i-test.true (of_row at.After-number-x))
 
 pub loop-i-preserved : goal.loop-i-preserved
 loop-i-preserved c =
-    listed_more c.loop-i.invariant c.loop-i-test.true (of_row (goal.at.loop-i-preserved c).After-number-x)
+    let at = goal.at.loop-i-preserved c in
+    listed_more c.loop-i.invariant c.loop-i-test.true (of_row at.After-number-x)
     c.add-len.ensures

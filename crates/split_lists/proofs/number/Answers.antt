@@ -32,19 +32,23 @@ low_in c =
 
 pub returns-then-own-other : goal.returns-then-own-other
 returns-then-own-other c =
+    let at = goal.at.returns-then-own-other c in
     inside-written most _ c.args.s
-    (omega (arith, c.if-own-other.true, c.size-own.ensures, outer (goal.at.returns-then-own-other c).After-size-other))
+    (omega (arith, c.if-own-other.true, c.size-own.ensures, outer at.After-size-other))
 
 pub returns-then-other-own : goal.returns-then-other-own
 returns-then-other-own c =
+    let at = goal.at.returns-then-other-own c in
     c.less-outside.ensures ∙ outside_written most _ c.args.s
-    (omega (arith, c.if-other-own.true, c.size-own.ensures, outer (goal.at.returns-then-other-own c).After-size-other))
+    (omega (arith, c.if-other-own.true, c.size-own.ensures, outer at.After-size-other))
 
 pub returns-then-has : goal.returns-then-has
 returns-then-has c =
+    let at = goal.at.returns-then-has c in
     c.less-outside.ensures
-    ∙ outside_tie most _ _ (tied (goal.at.returns-then-has c).Else-other-own) (sym (low_in (goal.at.returns-then-has c).After-has) ∙ c.if-has.true)
+    ∙ outside_tie most _ _ (tied at.Else-other-own) (sym (low_in at.After-has) ∙ c.if-has.true)
 
 pub returns : goal.returns
 returns c =
-    inside_tie most _ _ (tied (goal.at.returns c).Else-other-own) (sym (low_in (goal.at.returns c).After-has) ∙ c.if-has.false)
+    let at = goal.at.returns c in
+    inside_tie most _ _ (tied at.Else-other-own) (sym (low_in at.After-has) ∙ c.if-has.false)

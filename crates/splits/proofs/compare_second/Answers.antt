@@ -1,14 +1,14 @@
 -- `splits::compare_second` meets its contract.
+use mathlib.Core.Path.{sym, ◌∙◌}
 use Prim.Native.Nat.{◌^◌, ◌<◌}
 use borrow.Author.Tests.{ltb-true}
-use Rattle.taxa.proofs.Bools.{told_true}
 use Rattle.splits.proofs.ListLaws.{splits-room}
 use Rattle.splits.proofs.compare_second.Goals.{Else-not-within}
 use Rattle.splits.proofs.compare_second.Goals as goal
 
 -- past the test the partition names none but the taxa
 bound : (c : Else-not-within) → let a = c.args in a.y < 2 ^ a.n
-bound c = ltb-true _ _ (told_true c.within.ensures c.if-not-within.false-raw)
+bound c = ltb-true _ _ (sym c.within.ensures ∙ c.if-not-within.false)
 
 pub tree_splits-i-requires : goal.tree_splits-i-requires
 tree_splits-i-requires c =

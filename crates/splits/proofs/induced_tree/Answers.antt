@@ -4,7 +4,6 @@ use native.Mathlib.Omega.{arith}
 use lib.ListN.{length}
 use borrow.Author.Tests.{ltb-true}
 use Rattle.taxa.specs.Most.{most}
-use Rattle.taxa.proofs.Bools.{told_true, told_false}
 use Rattle.taxa.proofs.Sizes.{size_le}
 use Rattle.tree.specs.Splits.{members, splits}
 use Rattle.splits.proofs.ListLaws.{Within, needed}
@@ -16,7 +15,7 @@ use Rattle.splits.proofs.induced_tree.Goals as goal
 within : (c : Else-not-within) → let a = c.args in Within a.n a.t.now a.y
 within c = record {
   good = c.requires.good;
-  bound = told_true c.within.ensures c.if-not-within.false-raw;
+  bound = sym c.within.ensures ∙ c.if-not-within.false;
 }
 
 -- past the third call it is known how many splits there are
@@ -27,7 +26,7 @@ asked c W = c.members.ensures ∙ ap members c.size-m.ensures ∙ sym (needed W)
 pub returns-then-not-within : goal.returns-then-not-within
 returns-then-not-within c =
     induces_6 _ c.requires.good
-    (told_false c.within.ensures c.if-not-within.true-raw)
+    (sym c.within.ensures ∙ c.if-not-within.true)
 
 pub members-requires : goal.members-requires
 members-requires c =
@@ -52,4 +51,5 @@ pub returns : goal.returns
 returns c =
     let at = goal.at.returns c in
     let W = within at.Else-not-within in
-    induces_list W (omega (arith, c.if-out-members.false, asked at.After-members W)) c.tree_splits.ensures
+    induces_list W (omega (arith, c.if-out-members.false, asked at.After-members W))
+    c.tree_splits.ensures

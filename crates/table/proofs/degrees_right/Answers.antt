@@ -1,18 +1,17 @@
 -- `table::degrees_right` meets its contract.
-use mathlib.Core.Path.{refl, sym}
+use mathlib.Core.Path.{refl, sym, ◌∙◌}
 use native.Mathlib.Omega.{arith}
-use Rattle.taxa.proofs.Bools.{told_true, told_false}
 use Rattle.table.proofs.Tallies.{two_stretches}
 use Rattle.table.proofs.degrees_right.Goals as goal
 
 pub returns-then-not-all_at : goal.returns-then-not-all_at
 returns-then-not-all_at c =
     let a = c.args in
-    sym (two_stretches a.n a.d.now (sym (told_false c.all_at.ensures
-    c.if-not-all_at.true-raw)) refl (omega arith))
+    sym (two_stretches a.n a.d.now (sym (sym c.all_at.ensures
+    ∙ c.if-not-all_at.true)) refl (omega arith))
 
 pub returns : goal.returns
 returns c =
     let a = c.args in
-    sym (two_stretches a.n a.d.now (sym (told_true c.all_at.ensures
-    c.if-not-all_at.false-raw)) c.all_at-2.ensures (omega arith))
+    sym (two_stretches a.n a.d.now (sym (sym c.all_at.ensures
+    ∙ c.if-not-all_at.false)) c.all_at-2.ensures (omega arith))
