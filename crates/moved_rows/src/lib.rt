@@ -27,7 +27,7 @@ fn put(t: &mut [u8], r: usize, u: usize, v: usize)
 
 // The end that row x has on row e.
 fn end_on(t: &[u8], e: usize, x: usize) -> usize
-    requires { let t = t.old in (HasRow t e) × (HasRow t x) }
+    requires { let t = t.now in (HasRow t e) × (HasRow t x) }
     ensures { result ≡ end_on t.now e x }
 {
     let v = table::lo(t, e);

@@ -82,12 +82,7 @@ pub fn tusvlane_check_tree(n: usize, table: &[u8]) -> u32
 
 // Writes the induced splits of a tree over a partition; how many. Refusals 1
 // to 6 and 11.
-pub fn tusvlane_induced_splits(
-    n: usize,
-    table: &[u8],
-    partition: u64,
-    out: &mut [u64],
-) -> Answer
+pub fn tusvlane_induced_splits(n: usize, table: &[u8], partition: u64, out: &mut [u64]) -> Answer
     ensures { Induces n table.now partition out.old result out.new }
 {
     match splits::induced_splits(n, table, partition, out) {
@@ -100,12 +95,7 @@ pub fn tusvlane_induced_splits(
 }
 
 // How far apart two trees are over a partition. Refusals 1 to 6.
-pub fn tusvlane_compare(
-    n: usize,
-    first: &[u8],
-    second: &[u8],
-    partition: u64,
-) -> Comparison
+pub fn tusvlane_compare(n: usize, first: &[u8], second: &[u8], partition: u64) -> Comparison
     ensures { Compares n first.now second.now partition result }
 {
     match splits::compare(n, first, second, partition) {

@@ -1,7 +1,7 @@
 -- `door::parts_fit` meets its contract.
 use mathlib.Core.Path.{◌≡◌, sym, ◌∙◌}
 use mathlib.Core.Bool.{true}
-use Rattle.taxa.proofs.Bools.{told_true, told_false}
+use Rattle.taxa.proofs.Bools.{told_false}
 use Rattle.door.specs.Between.{counted}
 use Rattle.door.proofs.PartitionLaws.{count_6, United, union_6}
 use Rattle.door.proofs.PartitionLaws.{union_right, union_16}

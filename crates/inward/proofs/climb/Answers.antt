@@ -1,7 +1,6 @@
 -- `inward::climb` meets its contract. At each turn row r is to be given on
 -- from its end v; the measure is how many nodes may still come into the order.
 use mathlib.Core.Path.{refl, sym, ◌∙◌}
-use Prim.Native.Nat.{◌-◌, ◌<◌}
 use native.Mathlib.Numerals.{add-one}
 use native.Mathlib.Omega.{arith}
 use Rattle.inward.proofs.Counts.{climbs-few}
