@@ -1,8 +1,9 @@
 -- What every call promises, in one shape: what it says, how its answer reads,
 -- and what lent memory becomes, written by an answer and untouched by a
 -- refusal.
-use Rattle.std.specs.Prelude.{ℕ, ◌≡◌, Bool, true, false, ◌||◌, List, [], ◌∷◌, ◌++◌, eqb, length, drop}
+use Rattle.std.specs.Prelude.{ℕ, ◌≡◌, Bool, true, false, ◌||◌, List, [], ◌∷◌, ◌++◌, eqb, length, drop, Result, Ok, Err}
 use Rattle.calls.specs.declared.Refusal.{Refusal}
+use Rattle.calls.specs.declared.RefusedAt.{RefusedAt}
 use Rattle.calls.specs.Refusals.{number_of}
 
 -- A number is on a list.
@@ -46,6 +47,18 @@ abbrev pub then_said : {A B : Type 0} → Said A → (A → Said B) → Said B
 then_said (gives a) f = f a
 then_said (refuses k) f = refuses k
 then_said (refuses_at k p) f = refuses_at k p
+
+-- ---- what an answer of the code says
+
+-- An answer, or the refusal that stands in its place.
+abbrev pub says : {A : Type 0} → Result A Refusal → Said A
+says (Ok a) = gives a
+says (Err r) = refuses r
+
+-- The same where a refusal has its place.
+abbrev pub says_at : {A : Type 0} → Result A RefusedAt → Said A
+says_at (Ok a) = gives a
+says_at (Err e) = refuses_at e.why e.place
 
 -- ---- how an answer reads
 

@@ -4,131 +4,89 @@
 // other line is a comment.
 #![tactic(auto)]
 
-use std::io::Read;
+use std::io::{self, Read};
 
-// How many pieces a list has, one more than it has marks.
-pub fn count(s: &[u8], mark: u8) -> usize {
-    let mut k: usize = 1;
-    let mut i: usize = 0;
-    while i < s.len() {
-        k = k.wrapping_add((s[i] == mark) as usize);
-        i += 1;
+// A case: its line, and the input in which it stands, where names have bytes.
+#[derive(Clone, Copy)]
+pub struct Case<'a> {
+    input: &'a [u8],
+    line: &'a [u8],
+}
+
+impl<'a> Case<'a> {
+    // Word k of the line.
+    pub fn word(&self, k: usize) -> &'a [u8] {
+        piece(self.line, b' ', k)
     }
-    k
-}
 
-// The place where piece k begins, or the length where there is none.
-fn start(s: &[u8], mark: u8, k: usize) -> usize {
-    let mut left = k;
-    let mut i: usize = 0;
-    while i < s.len() {
-        if left == 0 {
-            return i;
-        }
-        left = left.wrapping_sub((s[i] == mark) as usize);
-        i += 1;
+    // The line from word k on.
+    pub fn title(&self, k: usize) -> &'a [u8] {
+        self.line
+            .splitn(k.saturating_add(1), |b| *b == b' ')
+            .nth(k)
+            .unwrap_or(&[])
     }
-    i
-}
 
-// The place of the first mark from a place on, or the length.
-fn stop(s: &[u8], mark: u8, from: usize) -> usize {
-    let mut i = from;
-    while i < s.len() {
-        if s[i] == mark {
-            return i;
-        }
-        i += 1;
+    // The first letter of the line.
+    pub fn head(&self) -> Option<u8> {
+        self.line.first().copied()
     }
-    i
-}
 
-// The bytes from a place to before another, none where there are no such.
-fn between(s: &[u8], a: usize, e: usize) -> &[u8] {
-    if a <= e {
-        if e <= s.len() {
-            return &s[a..e];
-        }
+    // The number in word k.
+    pub fn number(&self, k: usize) -> u64 {
+        number(self.word(k))
     }
-    &s[..0]
+
+    // The same, to count by.
+    pub fn size(&self, k: usize) -> usize {
+        self.number(k) as usize
+    }
+
+    // The bytes that a line of the input gives a name, none where none does.
+    pub fn named(&self, name: &[u8]) -> &'a [u8] {
+        self.input
+            .split(|b| *b == b'\n')
+            .find(|line| piece(line, b' ', 0) == name)
+            .map_or(&[], |line| piece(line, b' ', 1))
+    }
 }
 
-// The first k bytes, none where there are fewer.
-pub fn first(s: &[u8], k: usize) -> &[u8] {
-    between(s, 0, k)
-}
-
-// Piece k of a list, empty where there is none.
+// Piece k of a list that marks part, empty where there is none.
 pub fn piece(s: &[u8], mark: u8, k: usize) -> &[u8] {
-    let a = start(s, mark, k);
-    between(s, a, stop(s, mark, a))
+    s.split(|b| *b == mark).nth(k).unwrap_or(&[])
 }
 
-// How many lines the input has.
-pub fn lines(input: &[u8]) -> usize {
-    count(input, b'\n')
-}
+// A tenth of what a u64 holds, and what is over.
+const TENTH: u64 = u64::MAX / 10 + 1;
 
-// How many line feeds a list has.
-pub fn feeds(s: &[u8]) -> u64 {
-    (count(s, b'\n') as u64).wrapping_sub(1)
-}
-
-// Line k of the input.
-pub fn line(input: &[u8], k: usize) -> &[u8] {
-    piece(input, b'\n', k)
-}
-
-// Word k of a line.
-pub fn word(line: &[u8], k: usize) -> &[u8] {
-    piece(line, b' ', k)
-}
-
-// A line from word k on.
-pub fn title(line: &[u8], k: usize) -> &[u8] {
-    between(line, start(line, b' ', k), line.len())
-}
-
-// The first byte of a list, 0 where there is none.
-pub fn head(s: &[u8]) -> u8 {
-    if s.len() == 0 {
-        return 0;
-    }
-    s[0]
-}
-
-// Ten times k, without what a u64 has no room for.
-fn tenfold(k: u64) -> u64 {
-    k % 1844674407370955162 * 10
-}
-
-// The number that a word's decimal digits give.
+// The number that a word's decimal digits give, without what a u64 has no room
+// for.
 pub fn number(word: &[u8]) -> u64 {
-    let mut k: u64 = 0;
-    let mut i: usize = 0;
-    while i < word.len() {
-        k = tenfold(k).wrapping_add((word[i] % 16) as u64);
-        i += 1;
+    // Kept: `parse` refuses other bytes and what is too large; here they count as before.
+    word.iter().fold(0, |k, digit| {
+        (k % TENTH * 10).wrapping_add(u64::from(*digit % 16))
+    })
+}
+
+// Runs what is given on each case of the input, in their order, until it fails.
+fn on_each<F: Fn(Case<'_>) -> io::Result<()>>(input: &[u8], run: F) -> io::Result<()>
+    requires { F.IsAlwaysCallable run }
+{
+    for line in input.split(|b| *b == b'\n') {
+        if line.first().is_some_and(|b| *b >= b'a') {
+            run(Case { input, line })?;
+        }
     }
-    k
+    Ok(())
 }
 
-// An input, read into what is lent, or none of it where it could not be read
-// whole.
-pub fn read<'a, R: Read>(input: &mut R, room: &'a mut [u8]) -> &'a [u8] {
-    let got = whole_input::read_full(input, room);
-    if whole_input::whole(input, got) {
-        return first(room, got);
+// Runs what is given on each case of an input that could be read whole. A write
+// that fails ends the run, and shows where the output is compared.
+pub fn run<R: Read, F: Fn(Case<'_>) -> io::Result<()>>(input: &mut R, run: F)
+    requires { F.IsAlwaysCallable run }
+{
+    let mut room = [0u8; whole_input::ROOM];
+    if let Ok(input) = whole_input::read_whole(input, &mut room) {
+        let _ = on_each(input, run);
     }
-    first(room, 0)
-}
-
-// Whether a line is a case.
-pub fn is_case(line: &[u8]) -> bool {
-    head(line) >= b'a'
-}
-
-// The number in word k of a line.
-pub fn size(line: &[u8], k: usize) -> usize {
-    number(word(line, k)) as usize
 }

@@ -1,26 +1,14 @@
--- A lent list whose elements are looked at one after the other. Assumes
--- nothing.
-use Prim.Native.Nat.{ℕ, ◌+◌, ◌≤◌, ◌<◌}
-use mathlib.Core.Path.{◌≡◌, refl}
-use mathlib.Core.List.{List}
-use mathlib.Core.Bool.{true, false, false≢true}
-use native.Mathlib.Omega.{arith}
-use lib.ListN.{length, get_or}
-use borrow.Author.Count.{below_more}
-use Rattle.case_lists.specs.Marks.{Marked, Tells}
+-- What the test of lent lists says of lists of numbers. Assumes nothing.
+use Rattle.std.proofs.Common.{ℕ, List, Bool, eqb, ◌∙◌}
+use Rattle.std.proofs.lemmas.Bool.{eqb-true, eq-eqb}
+use Rattle.std.proofs.lemmas.List.{get_or_default}
+use Rattle.case_lists.specs.Marks.{Tells, TellsBy}
 
--- those from a place to before i were all the mark
-pub record Seen (s : List ℕ) (mark from i : ℕ) : Type 0 where
-  pub past : from ≤ i
-  pub marks : Marked s mark from i
-
-module _ {s : List ℕ} {mark from i : ℕ} (S : Seen s mark from i) where
-  pub seen_more : get_or s i 0 ≡ mark → Seen s mark from (i + 1)
-  seen_more e = record { past = omega (arith, S.past); marks = below_more _ i S.marks (λ _. e) }
-
-  pub not_kept : i < length s → (get_or s i 0 ≡ mark → ⊥) → Tells s mark from false
-  not_kept l h =
-      record { kept = λ e. absurd (false≢true e); yes = λ a. absurd (h (a i l S.past)) }
-
-  pub all-kept : length s ≤ i → Tells s mark from true
-  all-kept l = record { kept = λ _ k m. S.marks k (omega (arith, l, m)); yes = λ _. refl }
+-- by the test that numbers are equal, an element is the mark where it is equal
+pub tells_numbers : {s : List ℕ} {mark from : ℕ} {r : Bool} →
+    TellsBy eqb s mark from r → Tells s mark from r
+tells_numbers {s} {mark} T = record {
+  kept = λ e k below past. eqb-true _ _ (T.kept e k below past 0);
+  yes = λ same. T.yes (λ k below past d.
+      eq-eqb _ _ (get_or_default s k d 0 below ∙ same k below past));
+}

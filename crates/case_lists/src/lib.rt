@@ -1,9 +1,11 @@
 // Lists of bytes and of numbers, as a word of a case has them, and lent lists.
 #![tactic(auto)]
 
-ghost use Rattle.case_lists.specs.Marks.{Tells};
+ghost use Rattle.std.specs.Prelude.{◌≡◌, ◌<◌, ◌≤◌, [], length, slice_get, take, unwrap_or};
+ghost use Rattle.case_lists.specs.Marks.{TellsBy};
 
-use case_lines::{count, first, head, line, lines, number, piece, word};
+use arrayvec::ArrayVec;
+use case_lines::{Case, number};
 
 // A mark for lent lists, which no answer writes, and the most numbers that a
 // case can lend.
@@ -14,69 +16,56 @@ pub const ROOM: usize = 128;
 // The most bytes of a table that a case can have.
 pub const LONG: usize = 256;
 
-// How often a part of a word stands there: 64 times for `64*00`.
-fn times(part: &[u8]) -> u64 {
-    if count(part, b'*') < 2 {
-        return 1;
+// How often a part of a word stands there, and what does: 64 and `00` for
+// `64*00`.
+fn repeated(part: &[u8]) -> (u64, &[u8]) {
+    let mut pieces = part.split(|b| *b == b'*');
+    match (pieces.next(), pieces.next()) {
+        (Some(often), Some(what)) => (number(often), what),
+        _ => (1, part),
     }
-    number(piece(part, b'*', 0))
 }
 
-// What stands there so often.
-fn what(part: &[u8]) -> &[u8] {
-    piece(part, b'*', (count(part, b'*') > 1) as usize)
+// Gives a part as often as it says.
+fn repeat<F: FnMut(&[u8])>(part: &[u8], give: &mut F)
+    requires { (state : F) (x : _) → F.pre state x }
+{
+    let (often, what) = repeated(part);
+    for _ in 0..often {
+        give(what);
+    }
 }
 
-// Puts a number at a place of a list, where it has room; the place after it.
-fn put_number(out: &mut [u64], at: usize, y: u64) -> usize {
-    if at < out.len() {
-        out[at] = y;
-        return at + 1;
+// Gives the parts of a word, in their order, each as often as it says.
+fn parts<F: FnMut(&[u8])>(word: &[u8], mark: u8, mut give: F)
+    requires { (state : F) (x : _) → F.pre state x }
+{
+    for part in word.split(move |b| *b == mark) {
+        repeat(part, &mut give);
     }
-    at
 }
 
-// Puts the number of a part as often as it says; the place after the last.
-fn put_often(out: &mut [u64], at: usize, part: &[u8]) -> usize {
-    let y = number(what(part));
-    let often = times(part);
-    let mut end = at;
-    let mut i: u64 = 0;
-    while i < often {
-        end = put_number(out, end, y);
-        i += 1;
-    }
-    end
+// The numbers of a word such as `63,64*15`, as many as there is room for. A
+// word `0*0` has none.
+pub fn numbers<const N: usize>(word: &[u8]) -> ArrayVec<u64, N> {
+    let mut out = ArrayVec::new();
+    parts(word, b',', |what| {
+        let _ = out.try_push(number(what));
+    });
+    out
 }
 
-// Puts the numbers of a word such as `63,64*15`; how many. A word `0*0` has
-// none.
-pub fn numbers(word: &[u8], out: &mut [u64]) -> usize {
-    let m = count(word, b',');
-    let mut end: usize = 0;
-    let mut k: usize = 0;
-    while k < m {
-        end = put_often(out, end, piece(word, b',', k));
-        k += 1;
-    }
-    end
-}
-
-// Puts a byte at a place of a list, where it has room; the place after it.
-fn put_byte(out: &mut [u8], at: usize, b: u8) -> usize {
-    if at < out.len() {
-        out[at] = b;
-        return at + 1;
-    }
-    at
+// Number k of a list, 0 where there are fewer.
+pub fn number_at(list: &[u64], k: usize) -> u64
+    ensures { result ≡ unwrap_or (slice_get list.now k) 0 }
+{
+    list.get(k).copied().unwrap_or(0)
 }
 
 // The value of a hex digit.
 fn digit(c: u8) -> u8 {
-    if c < b'a' {
-        return c % 16;
-    }
-    c % 8 + 9
+    // Kept: `to_digit` refuses other bytes, and here they count as before.
+    if c < b'a' { c % 16 } else { c % 8 + 9 }
 }
 
 // The byte of two hex digits.
@@ -84,163 +73,66 @@ fn pair(high: u8, low: u8) -> u8 {
     digit(high) % 16 * 16 + digit(low) % 16
 }
 
-// Puts the bytes that hex digits give, two to a byte; the place after them.
-fn put_hex(out: &mut [u8], at: usize, hex: &[u8]) -> usize {
-    let m = hex.len() / 2;
-    let mut end = at;
-    let mut i: usize = 0;
-    while i < m {
-        end = put_byte(out, end, pair(hex[2 * i], hex[2 * i + 1]));
-        i += 1;
-    }
-    end
+// Puts a part that is text after a quote, or hex, two digits to a byte, as far
+// as there is room.
+fn put<const N: usize>(out: &mut ArrayVec<u8, N>, part: &[u8]) {
+    let _ = match part {
+        [b'\'', text @ ..] => out.extend(text.iter().copied()),
+        _ => out.extend(part.as_chunks::<2>().0.iter().map(|[h, l]| pair(*h, *l))),
+    };
 }
 
-// Puts text as it stands, but for the quote before it; the place after it.
-fn put_text(out: &mut [u8], at: usize, text: &[u8]) -> usize {
-    let mut end = at;
-    let mut i: usize = 1;
-    while i < text.len() {
-        end = put_byte(out, end, text[i]);
-        i += 1;
+// Puts the parts that a name has.
+fn put_named<const N: usize>(out: &mut ArrayVec<u8, N>, parts: &[u8]) {
+    for part in parts.split(|b| *b == b'+') {
+        put(out, part);
     }
-    end
 }
 
-// Puts a part that is text after a quote, or hex.
-fn put_part(out: &mut [u8], at: usize, part: &[u8]) -> usize {
-    if head(part) == b'\'' {
-        return put_text(out, at, part);
+// Puts a part that is a name in capitals, 65 to 90, or one that put knows.
+fn put_any<const N: usize>(out: &mut ArrayVec<u8, N>, case: Case<'_>, part: &[u8]) {
+    match part {
+        [64..=95, ..] => put_named(out, case.named(part)),
+        _ => put(out, part),
     }
-    put_hex(out, at, part)
 }
 
-// Puts parts with a plus between them.
-fn put_parts(out: &mut [u8], at: usize, parts: &[u8]) -> usize {
-    let m = count(parts, b'+');
-    let mut end = at;
-    let mut k: usize = 0;
-    while k < m {
-        end = put_part(out, end, piece(parts, b'+', k));
-        k += 1;
-    }
-    end
-}
-
-// The line of the input that gives a name its bytes, or how many lines there
-// are.
-fn named(input: &[u8], name: &[u8]) -> usize {
-    let m = lines(input);
-    let mut k: usize = 0;
-    while k < m {
-        if word(line(input, k), 0) == name {
-            return k;
-        }
-        k += 1;
-    }
-    k
-}
-
-// Puts a part that is a name in capitals, 65 to 90, text or hex.
-fn put_any(input: &[u8], out: &mut [u8], at: usize, part: &[u8]) -> usize {
-    if head(part) / 32 == 2 {
-        return put_parts(out, at, word(line(input, named(input, part)), 1));
-    }
-    put_part(out, at, part)
-}
-
-// Puts a part as often as it says.
-fn put_repeated(input: &[u8], out: &mut [u8], at: usize, part: &[u8]) -> usize {
-    let once = what(part);
-    let often = times(part);
-    let mut end = at;
-    let mut i: u64 = 0;
-    while i < often {
-        end = put_any(input, out, end, once);
-        i += 1;
-    }
-    end
-}
-
-// Puts the bytes of a word at the start of a list; how many. Its parts have a
+// The bytes of word k of a case, as many as there is room for. Its parts have a
 // plus between them: hex digits, text after a quote, or a name that a line of
 // the input gives its bytes. A word `-` has none.
-pub fn bytes(input: &[u8], word: &[u8], out: &mut [u8]) -> usize {
-    let m = count(word, b'+');
-    let mut end: usize = 0;
-    let mut k: usize = 0;
-    while k < m {
-        end = put_repeated(input, out, end, piece(word, b'+', k));
-        k += 1;
-    }
-    end
+pub fn bytes<const N: usize>(case: Case<'_>, k: usize) -> ArrayVec<u8, N> {
+    let mut out = ArrayVec::new();
+    parts(case.word(k), b'+', |part| put_any(&mut out, case, part));
+    out
 }
 
-// The bytes of a word, put into what is lent.
-pub fn given<'a>(input: &[u8], word: &[u8], room: &'a mut [u8]) -> &'a [u8] {
-    let long = bytes(input, word, room);
-    first(room, long)
-}
-
-// The first k numbers, none where there are fewer.
-pub fn firsts(s: &[u64], k: usize) -> &[u64] {
-    if k <= s.len() {
-        return &s[0..k];
-    }
-    &s[0..0]
+// The first k elements, none where there are fewer.
+pub fn first<T>(s: &[T], k: usize) -> &[T]
+    ensures there { k ≤ length s.now → result.now ≡ take k s.now }
+    ensures fewer { length s.now < k → result.now ≡ [] }
+{
+    s.get(..k).unwrap_or(&[])
 }
 
 // The same, to be lent.
-pub fn firsts_mut(s: &mut [u64], k: usize) -> &mut [u64] {
-    if k <= s.len() {
-        return &mut s[0..k];
-    }
-    &mut s[0..0]
-}
-
-// The first k bytes to be lent, none where there are fewer.
-pub fn first_mut(s: &mut [u8], k: usize) -> &mut [u8] {
-    if k <= s.len() {
-        return &mut s[0..k];
-    }
-    &mut s[0..0]
-}
-
-// Whether each number of a lent list is the mark.
-pub fn all_marks(out: &[u64]) -> bool
-    ensures { Tells out.now 999 0 result }
+pub fn first_mut<T>(s: &mut [T], k: usize) -> &mut [T]
+    ensures there { k ≤ length s.old → result.now ≡ take k s.old }
+    ensures fewer { length s.old < k → result.now ≡ [] }
 {
-    let mut i: usize = 0;
-    while i < out.len() {
-        if out[i] != MARK {
-            return false;
-        }
-        i += 1;
-    }
-    true
+    s.get_mut(..k).unwrap_or(&mut [])
 }
 
-// Whether the lent bytes from a place on are a mark still.
-pub fn marked(lent: &[u8], mark: u8, from: usize) -> bool
-    ensures { Tells lent.now mark from result }
+// Whether each element of a lent list from a place on is the mark still.
+pub fn marked<T: PartialEq + Copy>(lent: &[T], mark: T, from: usize) -> bool
+    ensures { TellsBy T.eq lent.now mark from result }
 {
-    let mut i = from;
-    while i < lent.len() {
-        if lent[i] != mark {
-            return false;
-        }
-        i += 1;
-    }
-    true
+    lent.iter().skip(from).all(|x| *x == mark)
 }
 
 // How many bytes a table of n taxa has, where there is one.
 pub fn table_bytes(n: usize) -> usize {
-    if n < 4 {
-        return 0;
+    match n {
+        4..=64 => 4 * n - 6,
+        _ => 0,
     }
-    if n > 64 {
-        return 0;
-    }
-    4 * n - 6
 }

@@ -1,61 +1,53 @@
-// What the programs of cases write on standard output; a write that fails
-// shows where their output is compared.
+// What the programs of cases print, beside text and single numbers; a write
+// that fails shows where their output is compared.
 #![tactic(auto)]
 
-// Writes words.
-pub fn put(rt: &impl Print, words: &[u8]) {
-    let _ = rt.write_all(words);
+use std::fmt::{self, Display, Formatter};
+use std::io;
+
+// Prints words, which need not be text, and ends the line.
+pub fn line(rt: &impl Print, words: &[u8]) -> io::Result<()> {
+    rt.write_all(words)?;
+    rt.write_all(b"\n")
 }
 
-// Writes words and ends the line.
-pub fn line(rt: &impl Print, words: &[u8]) {
-    put(rt, words);
-    put(rt, b"\n");
-}
+// The numbers of a list, a blank after each.
+#[derive(Clone, Copy)]
+pub struct Numbers<'a>(pub &'a [u64]);
 
-// Writes a number.
-pub fn number(rt: &impl Print, k: u64) {
-    let _ = rt.print(k);
-}
-
-// Writes a number and a blank, so that words or another number can follow.
-pub fn say(rt: &impl Print, k: u64) {
-    number(rt, k);
-    put(rt, b" ");
-}
-
-// Writes a number, a blank and words.
-pub fn tell(rt: &impl Print, k: u64, words: &[u8]) {
-    say(rt, k);
-    put(rt, words);
-}
-
-// Writes the numbers of a list, a blank after each.
-pub fn numbers(rt: &impl Print, l: &[u64]) {
-    let mut i: usize = 0;
-    while i < l.len() {
-        say(rt, l[i]);
-        i += 1;
+impl Display for Numbers<'_> {
+    // Writes one after the other.
+    fn fmt<W: fmt::Write>(&self, f: &mut Formatter<W>) -> fmt::Result {
+        for y in self.0 {
+            write!(f, "{y} ")?;
+        }
+        Ok(())
     }
 }
 
-// Writes the rows of a table as document 01 does, a dash between the two ends.
-pub fn rows(rt: &impl Print, t: &[u8]) {
-    let m = t.len() / 2;
-    let mut i: usize = 0;
-    while i < m {
-        number(rt, table::lo(t, i) as u64);
-        put(rt, b"-");
-        say(rt, table::hi(t, i) as u64);
-        i += 1;
+// The rows of a table as document 01 has them, a dash between the two ends and
+// a blank after each row.
+#[derive(Clone, Copy)]
+pub struct Rows<'a>(pub &'a [u8]);
+
+impl Display for Rows<'_> {
+    // Writes one after the other.
+    fn fmt<W: fmt::Write>(&self, f: &mut Formatter<W>) -> fmt::Result {
+        let (rows, _) = self.0.as_chunks::<2>();
+        for [low, high] in rows {
+            write!(f, "{low}-{high} ")?;
+        }
+        Ok(())
     }
 }
 
-// Says whether what was lent is as it was.
-pub fn kept(rt: &impl Print, same: bool) {
-    if same {
-        put(rt, b"kept, ");
-    } else {
-        put(rt, b"not kept, ");
+// Whether what was lent is as it was.
+#[derive(Clone, Copy)]
+pub struct Kept(pub bool);
+
+impl Display for Kept {
+    // Writes it as the start of a sentence.
+    fn fmt<W: fmt::Write>(&self, f: &mut Formatter<W>) -> fmt::Result {
+        f.write_str(if self.0 { "kept, " } else { "not kept, " })
     }
 }

@@ -1,5 +1,6 @@
 -- The three demands of the request, over the definitions, each theorem with a
 -- plain sentence above it. Assumes nothing.
+use Rattle.std.specs.Prelude.{Option, Some, Result, Ok, Err}
 use mathlib.Core.Path.{◌≡◌, refl, sym, ap, subst, ◌∙◌}
 use mathlib.Core.Logic.{◌↔◌}
 use mathlib.Core.Bool.{true}
@@ -8,11 +9,13 @@ use Prim.Native.Nat.{ℕ, ◌+◌, ◌*◌, ◌^◌, ◌≤◌, ◌<◌}
 use lib.Dec.{ltb}
 use lib.ListN.{length}
 use Rattle.calls.specs.declared.Refusal.{Refusal}
-use Rattle.calls.specs.Calls.{Said, gives, refuses, refuses_at, Pass, done, on, Given}
+use Rattle.calls.specs.declared.RefusedAt.{RefusedAt}
+use Rattle.calls.specs.Calls.{Said, gives, refuses, refuses_at, Pass, done, on, Given, says}
 use Rattle.calls.proofs.CallLaws.{call_one, call-settles, call_by_one}
 use Rattle.calls.proofs.CallLaws.{call_by_settles, call_zero, call-on, call_kept}
 use Rattle.calls.proofs.CallLaws.{call-refused, call_refused_at}
 use Rattle.calls.proofs.NumberLaws.{code_told}
+use Rattle.calls.proofs.SaysLaws.{says_one}
 use Rattle.taxa.specs.Sets.{pick, has, union, in_some, size, Sub}
 use Rattle.taxa.proofs.Unions.{has-union}
 use Rattle.tree.specs.Tree.{rows, Valid}
@@ -23,15 +26,11 @@ use Rattle.tree.specs.Refusals.{each, tree_said, all_seen, room_checks, Accepted
 use Rattle.tree.proofs.Seen.{given-seen, seen_gains}
 use Rattle.tree.proofs.Monotone.{dist-lowest, distances-lowest, dist_mono}
 use Rattle.tree.proofs.FewTaxa.{few_same}
-use Rattle.table.specs.Says.{check_says}
-use Rattle.table.specs.declared.Checked.{Checked}
-use Rattle.table.proofs.OneCheck.{checked_one}
 use Rattle.sides.specs.Promises.{Checks}
-use Rattle.splits.specs.Promises.{induced_said, induced_says, Induces}
+use Rattle.splits.specs.Promises.{induced_said, Induces}
 use Rattle.splits.specs.Promises.{compared_said, compare_says, Compares}
-use Rattle.splits.specs.declared.Induced.{Induced}
-use Rattle.splits.specs.declared.Compared.{Compared}
-use Rattle.splits.proofs.SaidLaws.{induced_one, compared_one}
+use Rattle.splits.specs.declared.Apart.{Apart}
+use Rattle.splits.proofs.SaidLaws.{compared_one}
 use Rattle.moves.specs.Moves.{Move, moved, move_checks}
 use Rattle.moves.specs.Groups.{move_rule}
 use Rattle.moves.specs.Verdicts.{moved_said, judged_said, judged_one_said}
@@ -39,20 +38,14 @@ use Rattle.moves.proofs.AnyMove.Moved.{moved_accepted, moved-dist}
 use Rattle.moves.proofs.AnyMove.Demands.{move_same_mono, move_unchanged_mono, same_iff_splits}
 use Rattle.group_rule.specs.Zeros.{zeros}
 use Rattle.group_rule.proofs.Judging.{zeros-unchanged}
-use Rattle.judge.specs.Promises.{move_says, Applies, judge_says, JudgesAll, verdict_says, JudgesOne}
-use Rattle.judge.specs.declared.Moved.{Moved}
-use Rattle.judge.specs.declared.Judged.{Judged}
-use Rattle.judge.specs.declared.Verdict.{Verdict}
-use Rattle.judge.proofs.SaidLaws.{moved_one, judged_one, verdict_one}
+use Rattle.judge.specs.Promises.{Applies, JudgesAll, JudgesOne}
 use Rattle.lines.specs.Lines.{saved_line}
 use Rattle.lines.specs.Plain.{Plain}
 use Rattle.saved.specs.Saved.{saved_of, of_four_or_more, how_many_fewer}
 use Rattle.move_lines.specs.MoveLines.{verdict_lines, move_lines}
-use Rattle.move_listing.specs.Listing.{lines_of, lines_said, lines_says, Page, place_after, Lists}
-use Rattle.move_listing.specs.declared.Lines.{Lines}
+use Rattle.move_listing.specs.Listing.{lines_of, lines_said, Page, place_after, Lists}
 use Rattle.saved.proofs.SavedLaws.{saved_unchanged, others-unchanged}
 use Rattle.move_lines.proofs.LineLaws.{lines_are}
-use Rattle.move_listing.proofs.ListsLaws.{lines_one}
 use Rattle.job_steps.specs.Job.{Known, next}
 use Rattle.job_steps.specs.Job as job
 use Rattle.job_steps.specs.Steps.{Lent, lending, told_of, stepped_says}
@@ -60,7 +53,7 @@ use Rattle.job_steps.specs.Steps as steps
 use Rattle.job_steps.specs.Runs.{first, run, Roomy}
 use Rattle.job_steps.specs.Sound.{Going, Closes}
 use Rattle.job_steps.specs.declared.State.{State}
-use Rattle.job_steps.specs.declared.Stepped.{Stepped}
+use Rattle.job_steps.specs.declared.Next.{Next}
 use Rattle.job_steps.proofs.PlainListing.{listing_plain}
 use Rattle.job_steps.proofs.StateLaws.{stepped_one}
 use Rattle.job_steps.proofs.Turns.{field-seen}
@@ -69,7 +62,9 @@ use Rattle.job_steps.proofs.GoingLaws.{room-enough, going_field}
 use Rattle.job_steps.proofs.RunLaws.{run-is-listing, listing-closes}
 use Rattle.newick_grammar.specs.Newick.{IsTree}
 use Rattle.newick_reader.specs.Promises.{Right, Reads, reading_says, Plants}
-use Rattle.newick_reader.specs.declared.Reading.{Reading}
+use Rattle.newick_labels.specs.declared.NotNewick.{NotNewick}
+use Rattle.newick_reader.specs.declared.Unread.{Unread}
+use Rattle.newick_reader.specs.declared.Unread.TheVariants as unread
 use Rattle.newick_reader.proofs.OneReading.{reads_one, reading_one, reads_valid, reads_iff}
 use Rattle.tusvlane.specs.Promises as c
 use Rattle.tusvlane.specs.Numbers.{check_numbers, induced_numbers, compare_numbers, apply_numbers}
@@ -86,44 +81,44 @@ use Rattle.tusvlane.proofs.NumberLaws.{list-only, read_only, step_only}
 -- leaves what was lent.
 
 -- Each call has one answer, and leaves one state of what was lent to it.
-pub one_check : (n : ℕ) (t : List ℕ) (a b : Checked) → Checks n t a → Checks n t b
+pub one_check : (n : ℕ) (t : List ℕ) (a b : Result (Unit {0}) Refusal) → Checks n t a → Checks n t b
     → a ≡ b
 one_check n t a b x z =
-    (call-settles check_says checked_one {a = a} {b = b} x z).0
+    (call-settles says says_one {a = a} {b = b} x z).0
 
-pub one_induced : (n : ℕ) (t : List ℕ) (y : ℕ) (out : List ℕ) (a b : Induced)
+pub one_induced : (n : ℕ) (t : List ℕ) (y : ℕ) (out : List ℕ) (a b : Result ℕ Refusal)
     (p q : List ℕ) → Induces n t y out a p → Induces n t y out b q
     → (a ≡ b) × (p ≡ q)
 one_induced n t y out a b p q =
-    call-settles induced_says induced_one {a = a} {b = b}
+    call-settles says says_one {a = a} {b = b}
 
-pub one_compared : (n : ℕ) (t u : List ℕ) (y : ℕ) (a b : Compared)
+pub one_compared : (n : ℕ) (t u : List ℕ) (y : ℕ) (a b : Result Apart Refusal)
     → Compares n t u y a → Compares n t u y b → a ≡ b
 one_compared n t u y a b x z =
     (call-settles compare_says compared_one {a = a} {b = b} x z).0
 
-pub one_applied : (n : ℕ) (t : List ℕ) (m : Move) (a b : Moved) (u v : List ℕ)
+pub one_applied : (n : ℕ) (t : List ℕ) (m : Move) (a b : Result (Unit {0}) Refusal) (u v : List ℕ)
     → Applies n t m a u → Applies n t m b v → (a ≡ b) × (u ≡ v)
-one_applied n t m a b u v = call-settles move_says moved_one {a = a} {b = b}
+one_applied n t m a b u v = call-settles says says_one {a = a} {b = b}
 
 pub one_judged : (n : ℕ) (t ys : List ℕ) (m : Move) (out : List ℕ)
-    (a b : Judged) (u v : List ℕ) → JudgesAll n t ys m out a u
+    (a b : Result ℕ Refusal) (u v : List ℕ) → JudgesAll n t ys m out a u
     → JudgesAll n t ys m out b v → (a ≡ b) × (u ≡ v)
 one_judged n t ys m out a b u v =
-    call-settles judge_says judged_one {a = a} {b = b}
+    call-settles says says_one {a = a} {b = b}
 
-pub one_verdict : (n : ℕ) (t : List ℕ) (y : ℕ) (m : Move) (a b : Verdict)
+pub one_verdict : (n : ℕ) (t : List ℕ) (y : ℕ) (m : Move) (a b : Result ℕ Refusal)
     → JudgesOne n t y m a → JudgesOne n t y m b → a ≡ b
 one_verdict n t y m a b x z =
-    (call-settles verdict_says verdict_one {a = a} {b = b} x z).0
+    (call-settles says says_one {a = a} {b = b} x z).0
 
 pub one_listed : (n : ℕ) (ys : List ℕ) (m : Move) (k place : ℕ) (p : Page)
-    (a b : Lines) (q r : Page) → Lists n ys m k place p a q
+    (a b : Result ℕ Refusal) (q r : Page) → Lists n ys m k place p a q
     → Lists n ys m k place p b r → (a ≡ b) × (q ≡ r)
 one_listed n ys m k place p a b q r =
-    call-settles lines_says lines_one {a = a} {b = b}
+    call-settles says says_one {a = a} {b = b}
 
-pub one_read : (n : ℕ) (s out : List ℕ) (a b : Reading) (p q : List ℕ)
+pub one_read : (n : ℕ) (s out : List ℕ) (a b : Result (Unit {0}) Unread) (p q : List ℕ)
     → Plants n s out a p → Plants n s out b q → (a ≡ b) × (p ≡ q)
 one_read n s out a b p q =
     call_by_settles reading_says reading_one (reads_one n s (length out)) {a = a} {b = b}
@@ -131,7 +126,8 @@ one_read n s out a b p q =
 pub one_start : (a b : State) → a ≡ first → b ≡ first → a ≡ b
 one_start a b x z = x ∙ sym z
 
-pub one_step : (j : List ℕ) (s : State) (m : Lent) (a b : Stepped) (p q : Lent)
+pub one_step : (j : List ℕ) (s : State) (m : Lent)
+    (a b : Result (Option Next) RefusedAt) (p q : Lent)
     → steps.Steps j s m a p → steps.Steps j s m b q → (a ≡ b) × (p ≡ q)
 one_step j s m a b p q =
     call-settles stepped_says stepped_one {a = a} {b = b}
@@ -296,41 +292,40 @@ number_c_step j s m r m' =
 
 -- A refused list of splits leaves the lent list.
 pub kept_induced : (n : ℕ) (t : List ℕ) (y : ℕ) (out : List ℕ) (r : Refusal)
-    (out' : List ℕ) → Induces n t y out (Induced.Refused r) out' → out' ≡ out
+    (out' : List ℕ) → Induces n t y out (Err r) out' → out' ≡ out
 kept_induced n t y out r out' p = (call-refused p).1
 
 -- A refused move leaves the lent table.
 pub kept_applied : (n : ℕ) (t : List ℕ) (m : Move) (r : Refusal) (t' : List ℕ)
-    → Applies n t m (Moved.Refused r) t' → t' ≡ t
+    → Applies n t m (Err r) t' → t' ≡ t
 kept_applied n t m r t' p = (call-refused p).1
 
 -- A refused judgement leaves the lent list.
 pub kept-judged : (n : ℕ) (t ys : List ℕ) (m : Move) (out : List ℕ)
     (r : Refusal) (out' : List ℕ)
-    → JudgesAll n t ys m out (Judged.Refused r) out' → out' ≡ out
+    → JudgesAll n t ys m out (Err r) out' → out' ≡ out
 kept-judged n t ys m out r out' p = (call-refused p).1
 
 -- A move whose lines are refused leaves the lent table and the lent output.
 pub kept_listed : (n : ℕ) (ys : List ℕ) (m : Move) (k place : ℕ) (p : Page)
-    (r : Refusal) (q : Page) → Lists n ys m k place p (Lines.Refused r) q
+    (r : Refusal) (q : Page) → Lists n ys m k place p (Err r) q
     → q ≡ p
 kept_listed n ys m k place p r q x = (call-refused x).1
 
 -- A refused text leaves the lent table.
 pub kept_read : (n : ℕ) (s out : List ℕ) (r : Refusal) (out' : List ℕ)
-    → Plants n s out (Reading.Refused r) out' → out' ≡ out
+    → Plants n s out (Err (unread.Refused r)) out' → out' ≡ out
 kept_read n s out r out' p = (call-refused p.call).1
 
 -- So does one that is refused with a place.
-pub kept-read-at : (n : ℕ) (s out : List ℕ) (r : Refusal) (place : ℕ)
-    (out' : List ℕ) → Plants n s out (Reading.RefusedAt r place) out'
-    → out' ≡ out
-kept-read-at n s out r place out' p = (call_refused_at p.call).1
+pub kept-read-at : (n : ℕ) (s out : List ℕ) (e : NotNewick) (out' : List ℕ)
+    → Plants n s out (Err (unread.NotNewick e)) out' → out' ≡ out
+kept-read-at n s out e out' p = (call_refused_at p.call).1
 
 -- A refused step leaves the lent table, partitions and output.
-pub kept_step : (j : List ℕ) (s : State) (m : Lent) (r : Refusal) (place : ℕ)
-    (m' : Lent) → steps.Steps j s m (Stepped.Refused r place) m' → m' ≡ m
-kept_step j s m r place m' g = (call_refused_at g).1
+pub kept_step : (j : List ℕ) (s : State) (m : Lent) (e : RefusedAt)
+    (m' : Lent) → steps.Steps j s m (Err e) m' → m' ≡ m
+kept_step j s m e m' g = (call_refused_at g).1
 
 -- Under its C name a call whose refusal number is not 0 leaves what was lent.
 pub kept_c_induced : (n : ℕ) (t : List ℕ) (y : ℕ) (out : List ℕ) (r : Answer)
@@ -484,10 +479,10 @@ program_step = going_field
 
 -- From any state a step past a field leaves a higher offset, not past the
 -- job's end. So there are never more such steps than bytes.
-pub steps_forward : (j : List ℕ) (s t : State) (m m' : Lent) (w : ℕ)
-    → steps.Steps j s m (Stepped.Next t w) m'
-    → (s.at < t.at) × (t.at ≤ length j)
-steps_forward j s t m m' w g =
+pub steps_forward : (j : List ℕ) (s : State) (m m' : Lent) (x : Next)
+    → steps.Steps j s m (Ok (Some x)) m'
+    → (s.at < x.state.at) × (x.state.at ≤ length j)
+steps_forward j s m m' x g =
     let f = step_forward j s m refl g in (f.0, f.1)
 
 -- Every written line is ASCII, with one line feed and no blank at its end.

@@ -4,23 +4,22 @@
 use mathlib.Core.Path.{◌≡◌, refl, sym, ap, ◌∙◌}
 use mathlib.Core.Bool.{true}
 use mathlib.Core.List.{List, ◌++◌}
+use Rattle.std.specs.Prelude.{Result, Ok, Err}
 use Prim.Native.Nat.{ℕ}
 use Rattle.calls.specs.declared.Refusal.{Refusal}
 use Rattle.calls.specs.Calls.{Check, Said, gives, refuses, refuses_at, judged, then_said}
+use Rattle.calls.specs.Calls as calls
+use Rattle.calls.proofs.SaysLaws.{handed_on}
 use Rattle.calls.proofs.CheckLaws.{judged-then, judged_pass, judged-all, gives_pass, gives_same}
 use Rattle.calls.proofs.CheckLaws.{refuses_more, pass_before, pass_after, pass_both}
 use Rattle.tree.specs.Refusals.{tree_checks, tree_said}
 use Rattle.tree.proofs.RefusalLaws.{accepted_pass}
-use Rattle.table.specs.Says.{check_says}
-use Rattle.table.specs.declared.Checked.{Checked}
 use Rattle.sides.specs.Between.{Found}
 use Rattle.sides.proofs.LookLaws.{found-refused, found-given}
 use Rattle.moves.specs.Moves.{Move, moved, move_checks}
 use Rattle.moves.specs.Between.{plan_of, plan_moved, Planned}
 use Rattle.moves.specs.declared.Plan.{Plan}
 use Rattle.moves.proofs.AnyMove.Plans.{plan-moved}
-use Rattle.move_plan.specs.Between.{entry_says}
-use Rattle.move_plan.specs.declared.Entry.{Entry}
 use Rattle.door.specs.Between.{counted, door_checks, parts_said, opened_said, entered_said}
 use Rattle.door.specs.Between.{Entered, Ready, Opened}
 
@@ -49,22 +48,22 @@ module _ (n : ℕ) (t : List ℕ) (cs : List Check) (m : Move) where
         (sym entered_is ∙ h)
 
 -- ---- the answer of the door
-module _ (cs : List Check) {n : ℕ} {t : List ℕ} {m : Move} {r : Entry} {near s : List ℕ}
+module _ (cs : List Check) {n : ℕ} {t : List ℕ} {m : Move} {r : Result Plan Refusal} {near s : List ℕ}
     {parts : Said (Unit {0})}
     (by : parts ≡ parts_said n cs) (e : Entered n t parts m r near s) where
-  says : entry_says r ≡ entered_said n t (parts_said n cs) m
+  says : calls.says r ≡ entered_said n t (parts_said n cs) m
   says = e.says ∙ ap (λ (x : Said (Unit {0})). entered_said n t x m) by
 
   -- A refusal is the call's.
-  pub door_refuses : {A : Type 0} (more : List Check) (a : A) {k : Refusal} → r ≡ Entry.Refused k
+  pub door_refuses : {A : Type 0} (more : List Check) (a : A) {k : Refusal} → r ≡ Err k
       → judged (door_checks n t cs m ++ more) a ≡ refuses k
-  door_refuses more a h = door_stands n t cs m more a (sym says ∙ ap entry_says h)
+  door_refuses more a h = door_stands n t cs m more a (sym says ∙ ap calls.says h)
 
   -- A plan goes on.
-  pub door_opens : {p : Plan} → r ≡ Entry.Opens p → Opened n t near s cs m p
+  pub door_opens : {p : Plan} → r ≡ Ok p → Opened n t near s cs m p
   door_opens {p} h =
       let w : judged (door_checks n t cs m) (plan_of n t m) ≡ gives p =
-      sym (says ∙ entered_is n t cs m) ∙ ap entry_says h in
+      sym (says ∙ entered_is n t cs m) ∙ ap calls.says h in
       let all = gives_pass (door_checks n t cs m) (plan_of n t m) p w in
       let rest = pass_after (tree_checks n t) (cs ++ move_checks n t m) all in
       record {
@@ -98,10 +97,10 @@ module _ {n : ℕ} {t near s : List ℕ} {cs : List Check} {m : Move} {p : Plan}
       (pass_both (tree_checks n t ++ cs) (move_checks n t m) first o.fits)
 
 -- ---- the answer of the look at the tree
-module _ {n : ℕ} {t : List ℕ} {c : Checked} {near s : List ℕ} (f : Found n t c near s)
+module _ {n : ℕ} {t : List ℕ} {c : Result (Unit {0}) Refusal} {near s : List ℕ} (f : Found n t c near s)
     {parts : Said (Unit {0})} {m : Move} where
-  pub entered_refused : {k : Refusal} → c ≡ Checked.Refused k
-      → Entered n t parts m (Entry.Refused k) near s
+  pub entered_refused : {k : Refusal} → c ≡ Err k
+      → Entered n t parts m (Err k) near s
   entered_refused h =
       let w = found-refused f h in
       record {
@@ -109,11 +108,14 @@ module _ {n : ℕ} {t : List ℕ} {c : Checked} {near s : List ℕ} (f : Found n
         looked = λ g. found-given f g;
       }
 
-  pub entered_tree : {r : Entry} → c ≡ Checked.Tree → entry_says r ≡ opened_said n t parts m
+  pub entered_tree : {r : Result Plan Refusal} → c ≡ Ok tt → calls.says r ≡ opened_said n t parts m
       → Entered n t parts m r near s
   entered_tree h e =
-      let w : tree_said n t ≡ gives tt = sym f.sighted.says ∙ ap check_says h in
+      let w : tree_said n t ≡ gives tt = sym f.sighted.says ∙ ap calls.says h in
       record {
         says = e ∙ sym (ap (λ (x : Said (Unit {0})). then_said x (λ u. opened_said n t parts m)) w);
         looked = λ g. found-given f g;
       }
+
+-- what the check is to use
+pub ruleset entering = (handed_on, entered_refused, entered_tree)

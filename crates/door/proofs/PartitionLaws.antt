@@ -19,7 +19,7 @@ use Rattle.taxa.proofs.Bools.{either, not_both, and_left, and_right, and_both, b
 use Rattle.taxa.proofs.Sets.{has-none, has_ones, has-less, none_zero}
 use Rattle.taxa.proofs.Unions.{within_or, has-union}
 use Rattle.tree.specs.Tree.{every}
-use Rattle.tree.specs.Refusals.{each, all_seen, partition_checks, partitions_checks}
+use Rattle.tree.specs.Refusals.{each, all_seen, partitions_checks}
 use Rattle.tree.proofs.RowCounts.{every-all, all-every, every_same}
 use Rattle.door.specs.Between.{counted, count_right, parts_said}
 
@@ -29,7 +29,7 @@ module _ (n : ℕ) where
   -- It names none but the n taxa exactly where each set on the list does.
   within-joined : (s : ℕ) (ys : List ℕ)
       → ltb (joined s ys) (2 ^ n) ≡ (ltb s (2 ^ n) && each (λ y. ltb y (2 ^ n)) ys)
-  unfolding joined each
+  unfolding each
   within-joined s [] = sym (and-true (ltb s (2 ^ n)))
   within-joined s (y ∷ ys) =
       let rest : Bool = each (λ z. ltb z (2 ^ n)) ys in
@@ -116,19 +116,6 @@ no_parts n = go (counted n)
     go true = refl
     go false = refl
 
--- One partition.
-module _ (n y : ℕ) (number : counted n ≡ true) where
-  abbrev part_said : Said (Unit {0})
-  part_said = parts_said n (partition_checks n y)
-
-  pub part_right : ltb y (2 ^ n) ≡ true → gives tt ≡ part_said
-  unfolding judged
-  part_right h = rw (number, h)
-
-  pub part_6 : ltb y (2 ^ n) ≡ false → refuses Refusal.Partition ≡ part_said
-  unfolding judged
-  part_6 h = rw (number, h)
-
 -- A list.
 module _ (n : ℕ) (ys : List ℕ) where
   abbrev each_within : Bool
@@ -188,3 +175,8 @@ module _ (n : ℕ) (ys : List ℕ) where
 
   pub each_of : Pass (partitions_checks n ys) → each (λ y. ltb y (2 ^ n)) ys ≡ true
   each_of p = and_right (count_right (length ys)) (each_within n ys) p.0
+
+-- what the check is to use
+pub ruleset list_laws = (count_6, union_6, union_right, union_16)
+
+pub ruleset union_laws = (seen-union)

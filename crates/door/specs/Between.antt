@@ -1,16 +1,17 @@
 -- What only stands between the functions: what the front door of the calls
 -- about a move says and leaves.
-use Rattle.std.specs.Prelude.{ℕ, ◌≡◌, Bool, ◌&&◌, List, ◌++◌, leb}
+use Rattle.std.specs.Prelude.{ℕ, ◌≡◌, Bool, ◌&&◌, List, ◌++◌, leb, Result}
 use Rattle.taxa.specs.Most.{most, most_partitions}
 use Rattle.taxa.specs.Sets.{pick}
+use Rattle.calls.specs.declared.Refusal.{Refusal}
 use Rattle.calls.specs.Calls.{Check, Said, gives, judged, Pass, then_said}
+use Rattle.calls.specs.Calls as calls
 use Rattle.tree.specs.Refusals.{tree_checks, tree_said}
 use Rattle.sides.specs.Between.{Looked}
 use Rattle.moves.specs.Moves.{Move, move_checks}
 use Rattle.moves.specs.Between.{plan_of, Planned}
 use Rattle.moves.specs.declared.Plan.{Plan}
-use Rattle.move_plan.specs.Between.{entry_says, plan_said}
-use Rattle.move_plan.specs.declared.Entry.{Entry}
+use Rattle.move_plan.specs.Between.{plan_said}
 
 -- The checks of a move on a tree, in order: 1 to 5, those of the partitions, 7
 -- to 10.
@@ -42,9 +43,9 @@ entered_said n t parts m = then_said (tree_said n t) (λ u. opened_said n t part
 
 -- It says so, and of a tree the arrays hold the rows at each node and the side
 -- of every row.
-pub record Entered (n : ℕ) (t : List ℕ) (parts : Said (Unit {0})) (m : Move) (r : Entry)
-    (near s : List ℕ) : Type 0 where
-  pub says : entry_says r ≡ entered_said n t parts m
+pub record Entered (n : ℕ) (t : List ℕ) (parts : Said (Unit {0})) (m : Move)
+    (r : Result Plan Refusal) (near s : List ℕ) : Type 0 where
+  pub says : calls.says r ≡ entered_said n t parts m
   pub looked : tree_said n t ≡ gives tt → Looked n t near s
 
 -- What goes on through the door: a tree that was looked at, and the plan of a

@@ -4,43 +4,37 @@
 #![tactic(auto)]
 
 ghost use Rattle.std.specs.Prelude.{◌≤◌, ◌≡◌, length};
-ghost use Rattle.calls.specs.Calls.{then_said};
+ghost use Rattle.calls.specs.Calls.{says};
 ghost use Rattle.taxa.specs.Most.{most};
 ghost use Rattle.taxa.specs.Sets.{has};
 ghost use Rattle.tree.specs.Tree.{rows, every};
 ghost use Rattle.tree.specs.Refusals.{all_seen, partition_checks, partitions_checks};
 ghost use Rattle.node_rows.specs.Between.{no_rows};
-ghost use Rattle.sides.specs.Between.{Sided};
 ghost use Rattle.move_plan.specs.Entries.{move_of};
-ghost use Rattle.move_plan.specs.Between.{fitted_says, entry_says};
 ghost use Rattle.door.specs.Between as entered;
 ghost use Rattle.door.specs.Between.{parts_said, opened_said, Entered};
 
 use calls::Refusal;
-use move_plan::{Entry, Fitted, Move};
-use table::Checked;
+use move_groups::TreeView;
+use move_plan::Move;
+use moves::Plan;
 
 // Whether n is a number of taxa.
 fn counted(n: usize) -> bool
     ensures { result ≡ entered.counted n }
 {
-    if n < 4 {
-        return false;
-    }
-    n <= taxa::MOST
+    (4..=taxa::MOST).contains(&n)
 }
 
 // Whether there is one partition at least and not too many.
 fn count_right(count: usize) -> bool
     ensures { result ≡ entered.count_right count }
 {
-    if count == 0 {
-        return false;
-    }
-    count <= taxa::PARTITIONS
+    (1..=taxa::PARTITIONS).contains(&count)
 }
 
 // Whether each of the n taxa is in y.
+#[tactic(auto, using(crate::proofs::PartitionLaws::covers_is))]
 fn covers(n: usize, y: u64) -> bool
     requires { (4 ≤ n) × (n ≤ most) }
     ensures { result ≡ every (has y) n }
@@ -50,6 +44,7 @@ fn covers(n: usize, y: u64) -> bool
 }
 
 // Whether each of the n taxa is in some partition on a list.
+#[tactic(auto, using(crate::proofs::PartitionLaws::union_laws))]
 pub fn all_seen(n: usize, ys: &[u64]) -> bool
     requires { (4 ≤ n) × (n ≤ most) }
     ensures { result ≡ all_seen n ys.now }
@@ -59,76 +54,71 @@ pub fn all_seen(n: usize, ys: &[u64]) -> bool
 
 // The test of one partition: refusal 6. It says nothing where n is no number
 // of taxa, for then the tree is refused.
-pub fn part_fits(n: usize, y: u64) -> Fitted
-    ensures { fitted_says result ≡ parts_said n (partition_checks n y) }
+#[tactic(auto, unfolding(calls::specs::Calls::judged))]
+pub fn part_fits(n: usize, y: u64) -> Result<(), Refusal>
+    ensures { says result ≡ parts_said n (partition_checks n y) }
 {
     if !counted(n) {
-        return Fitted::Fits;
+        return Ok(());
     }
-    if taxa::within(y, n) {
-        return Fitted::Fits;
+    if !taxa::within(y, n) {
+        return Err(Refusal::Partition);
     }
-    Fitted::Refused(Refusal::Partition)
+    Ok(())
 }
 
 // The test of a list of partitions: refusals 6 and 16. Their union is found
 // once.
-pub fn parts_fit(n: usize, ys: &[u64]) -> Fitted
-    ensures { fitted_says result ≡ parts_said n (partitions_checks n ys.now) }
+#[tactic(auto, using(crate::proofs::PartitionLaws::list_laws))]
+pub fn parts_fit(n: usize, ys: &[u64]) -> Result<(), Refusal>
+    ensures { says result ≡ parts_said n (partitions_checks n ys.now) }
 {
     if !counted(n) {
-        return Fitted::Fits;
+        return Ok(());
     }
     if !count_right(ys.len()) {
-        return Fitted::Refused(Refusal::Partition);
+        return Err(Refusal::Partition);
     }
     let all = taxa::union(ys);
     if !taxa::within(all, n) {
-        return Fitted::Refused(Refusal::Partition);
+        return Err(Refusal::Partition);
     }
-    if covers(n, all) {
-        return Fitted::Fits;
+    if !covers(n, all) {
+        return Err(Refusal::Unseen);
     }
-    Fitted::Refused(Refusal::Unseen)
+    Ok(())
 }
 
-// The first refusal: that of the partitions, or what was found of the move.
-fn first_of(parts: Fitted, planned: Entry) -> Entry
-    ensures { entry_says result ≡ then_said (fitted_says parts) (λ u. entry_says planned) }
+// What is found of a move on a tree that was looked at, after the test of its
+// partitions: their refusal, or 7 to 10.
+pub fn plan_after(tree: &TreeView, parts: Result<(), Refusal>, m: Move) -> Result<Plan, Refusal>
+    ensures { let n = tree.now.n in
+        says result ≡ opened_said n tree.now.table.now (says parts) (move_of m) }
 {
-    match parts {
-        Fitted::Refused(r) => Entry::Refused(r),
-        Fitted::Fits => planned,
-    }
-}
-
-// What is found of a move on a tree whose sides are known, after the test of
-// its partitions: their refusal, or 7 to 10.
-pub fn plan_after(n: usize, t: &[u8], s: &[u64], parts: Fitted, m: Move) -> Entry
-    requires { Sided n t.now s.now }
-    ensures { entry_says result ≡ opened_said n t.now (fitted_says parts) (move_of m) }
-{
-    let planned = move_plan::plan_of(n, t, s, m);
-    first_of(parts, planned)
+    parts?;
+    move_plan::plan_of(tree, m)
 }
 
 // The front door: refusals 1 to 5, those of the partitions, and 7 to 10. The
 // rows at each node and the side of every row are left in the lent arrays.
+#[tactic(auto, using(crate::proofs::DoorLaws::entering))]
 pub fn enter(
     n: usize,
     t: &[u8],
     near: &mut [u8; node_rows::PLACES],
     s: &mut [u64; sides::ROWS],
-    parts: Fitted,
+    parts: Result<(), Refusal>,
     m: Move,
-) -> Entry
+) -> Result<Plan, Refusal>
     requires { (near.old ≡ no_rows) × (length s.old ≡ rows most) }
-    ensures { let parts = fitted_says parts in
-        Entered n t.now parts (move_of m) result near.new s.new }
+    ensures { Entered n t.now (says parts) (move_of m) result near.new s.new }
 {
-    let answer = sides::look(n, t, near, s);
-    match answer {
-        Checked::Refused(r) => Entry::Refused(r),
-        Checked::Tree => plan_after(n, t, s, parts, m),
-    }
+    sides::look(n, t, near, s)?;
+    let tree = TreeView {
+        n,
+        table: t,
+        near,
+        sides: s,
+    };
+    plan_after(&tree, parts, m)
 }

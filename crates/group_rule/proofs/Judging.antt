@@ -2,16 +2,20 @@
 -- written in order, and the numbers are the distances of two trees. Assumes
 -- nothing.
 use mathlib.Core.Path.{◌≡◌, refl, sym, ap, ap₂, ◌∙◌}
-use mathlib.Core.Bool.{true, false, not, ◌&&◌}
+use mathlib.Core.Bool.{Bool, true, false, not, ◌&&◌, ◌||◌, cond}
 use mathlib.Core.List.{List, [], ◌∷◌, ◌++◌}
 use Prim.Native.Nat.{ℕ, suc, ◌+◌, ◌^◌, ◌<◌, ◌≤◌}
 use native.Mathlib.Omega.{arith}
-use native.Mathlib.Numerals.{add-one}
 use lib.Bits.{bit_and}
 use lib.Dec.{eqb, ltb}
-use lib.ListN.{length, take, drop, get_or, set, length-drop}
-use lib.Seq.{take-suc, drop-cons, drop-length, length-take-le, take-length}
-use borrow.Author.Tests.{ltb-true, eqb-true, eq-eqb, ne_eqb}
+use lib.ListN.{length, take, get_or, set}
+use lib.Seq.{length-take-le, take-length}
+use borrow.Author.Tests.{ltb-true, eqb-true, eq-eqb}
+use Rattle.std.specs.Prelude.{map}
+use Rattle.std.specs.List.{count_by, list_any, list_all}
+use Rattle.std.proofs.lemmas.Bool.Decides.{nat_tests}
+use Rattle.std.proofs.lemmas.List.Recursion.{is_count_by}
+use Rattle.std.proofs.lemmas.List.{length-map, map_more}
 use Rattle.calls.specs.Calls.{at_start}
 use Rattle.calls.proofs.StartLaws.{start_put, wrote-length}
 use Rattle.taxa.specs.Sets.{tally, some}
@@ -21,54 +25,39 @@ use Rattle.tree.specs.Splits.{dist, distances_by, distances, unchanged}
 use Rattle.tree.specs.Refusals.{each}
 use Rattle.moves.specs.Groups.{met}
 use Rattle.moves.proofs.Ways.GroupLists.{met_le}
-use Rattle.group_rule.specs.Between.{mapped, all_meet, Judges}
+use Rattle.group_rule.specs.Between.{all_meet, Judges}
 use Rattle.group_rule.specs.Zeros.{zeros}
 
--- ---- of the groups before place i, k meet y
-pub record Passed (y : ℕ) (gs : List ℕ) (i k : ℕ) : Type 0 where
-  pub within : i ≤ length gs
-  pub all : met y gs ≡ k + met y (drop i gs)
+-- ---- how many groups meet y, and whether one does or all do
+abbrev pub meeting : ℕ → ℕ → Bool
+meeting y g = some (bit_and g y)
 
-pub passed_none : (y : ℕ) (gs : List ℕ) → Passed y gs 0 0
-passed_none y gs = record { within = omega arith; all = omega arith }
+one_more : (b : Bool) (m : ℕ) → tally b + m ≡ cond b (1 + m) m
+one_more true m = refl
+one_more false m = omega arith
 
-module _ {y : ℕ} {gs : List ℕ} {i k : ℕ} (P : Passed y gs i k) where
-  pub passed_end : length gs ≤ i → met y gs ≡ k
-  unfolding met
-  passed_end m =
-      let e : i ≡ length gs = omega arith in
-      let none : met y (drop i gs) ≡ 0 = rw (e, drop-length) in
-      omega arith
+one_of : (b r : Bool) (m : ℕ) → r ≡ not (eqb m 0) → (b || r) ≡ not (eqb (tally b + m) 0)
+one_of true r m h = grind (arith, nat_tests)
+one_of false r m h = grind (arith, nat_tests)
 
-  pub met-full : k ≡ i → length gs ≤ i → true ≡ all_meet y gs
-  met-full e m = rw (eq-eqb (met y gs) (length gs) (omega (arith, passed_end m)))
+all_of : (b r : Bool) (m k : ℕ) → m ≤ k → r ≡ eqb m k → (b && r) ≡ eqb (tally b + m) (suc k)
+all_of true r m k l h = grind (arith, nat_tests)
+all_of false r m k l h = grind (arith, nat_tests)
 
-  pub passed_few : k ≤ length gs
-  passed_few = omega (arith, met_le y gs)
+pub count_meeting : (y : ℕ) (gs : List ℕ) → count_by (meeting y) gs ≡ met y gs
+unfolding met
+count_meeting y gs =
+    sym (is_count_by (met y) (meeting y) refl (λ g gs. one_more (meeting y g) (met y gs)) gs)
 
-  -- m tells whether the group there meets y
-  module _ (l : i < length gs) {m : ℕ} (h : m ≡ tally (some (bit_and (get_or gs i 0) y))) where
-    pub passed_next : {k' : ℕ} → k' ≡ k + m → Passed y gs (i + 1) k'
-    unfolding met
-    passed_next e =
-        let next : met y (drop i gs) ≡ m + met y (drop (i + 1) gs) =
-        rw (drop-cons gs i 0 l, add-one, h) in
-        record { within = omega arith; all = omega arith }
+pub any_meeting : (y : ℕ) (gs : List ℕ) → list_any (meeting y) gs ≡ not (eqb (met y gs) 0)
+unfolding met
+any_meeting y [] = refl
+any_meeting y (g ∷ gs) = one_of (meeting y g) _ _ (any_meeting y gs)
 
-    pub passed_met : (m ≡ 0 → ⊥) → Passed y gs (i + 1) (k + 1)
-    passed_met d = passed_next (omega (arith, tally_one (some (bit_and (get_or gs i 0) y))))
-
-    pub passed_missed : m ≡ 0 → Passed y gs (i + 1) k
-    passed_missed z = passed_next (omega arith)
-
-    pub met_some : (m ≡ 0 → ⊥) → true ≡ not (eqb (met y gs) 0)
-    met_some d = rw (ne_eqb (met y gs) 0 (omega (arith, passed_met d)))
-
-    pub met_short : m ≡ 0 → k ≤ i → false ≡ all_meet y gs
-    met_short z ki =
-        let few = met_le y (drop (i + 1) gs) in
-        let left = length-drop (i + 1) gs in
-        rw (ne_eqb (met y gs) (length gs) (omega (arith, passed_missed z)))
+pub all_meeting : (y : ℕ) (gs : List ℕ) → list_all (meeting y) gs ≡ all_meet y gs
+unfolding met
+all_meeting y [] = refl
+all_meeting y (g ∷ gs) = all_of (meeting y g) _ _ _ (met_le y gs) (all_meeting y gs)
 
 -- of two and two groups all four are met exactly where both pairs are
 pub four_met : (y : ℕ) (gs hs : List ℕ) → (length gs ≡ 2) × (length hs ≡ 2)
@@ -88,16 +77,6 @@ four_met y gs hs two =
     eq-eqb (met y gs + met y hs) 4 (omega arith))
 
 -- ---- one number more
-length-mapped : (f : ℕ → ℕ) (ys : List ℕ) → length (mapped f ys) ≡ length ys
-unfolding mapped
-length-mapped f [] = refl
-length-mapped f (y ∷ ys) = ap suc (length-mapped f ys)
-
-mapped_more : (f : ℕ → ℕ) (xs : List ℕ) (y : ℕ) → mapped f (xs ++ y ∷ []) ≡ mapped f xs ++ f y ∷ []
-unfolding mapped
-mapped_more f [] y = refl
-mapped_more f (x ∷ xs) y = rw (mapped_more f xs y)
-
 zeros_more : (xs : List ℕ) (x : ℕ) → zeros (xs ++ x ∷ []) ≡ zeros xs + tally (eqb x 0)
 unfolding zeros
 zeros_more [] x = omega arith
@@ -109,14 +88,14 @@ unfolding zeros
 zeros_le [] = omega arith
 zeros_le (x ∷ xs) = omega (arith, zeros_le xs, tally_one (eqb x 0))
 
--- the first i of ys are done
+-- the first i of ys are judged
 pub record Judged (f : ℕ → ℕ) (ys o : List ℕ) (i r : ℕ) (out : List ℕ) : Type 0 where
   pub within : i ≤ length ys
   pub so_far : Judges f (take i ys) o r out
   pub room : length ys ≤ length o
 
 pub judged-none : {ys o : List ℕ} (f : ℕ → ℕ) → length ys ≤ length o → Judged f ys o 0 0 o
-unfolding mapped zeros
+unfolding zeros
 judged-none f room = record {
   within = omega arith;
   so_far = record { count = refl; memory = refl };
@@ -124,11 +103,11 @@ judged-none f room = record {
 }
 
 module _ {f : ℕ → ℕ} {ys o : List ℕ} {i r : ℕ} {out : List ℕ} (J : Judged f ys o i r out) where
-  size : length (mapped f (take i ys)) ≡ i
-  size = length-mapped f (take i ys) ∙ length-take-le i ys J.within
+  size : length (map f (take i ys)) ≡ i
+  size = length-map (take i ys) f ∙ length-take-le i ys J.within
 
   pub judged-few : r ≤ i
-  judged-few = omega (arith, J.so_far.count, zeros_le (mapped f (take i ys)), size)
+  judged-few = omega (arith, J.so_far.count, zeros_le (map f (take i ys)), size)
 
   pub judged_end : length ys ≤ i → Judges f ys o r out
   judged_end m = let e : i ≡ length ys = omega arith in rw (e, take-length) at J.so_far
@@ -139,9 +118,9 @@ module _ {f : ℕ → ℕ} {ys o : List ℕ} {i r : ℕ} {out : List ℕ} (J : J
   pub judged-next : i < length ys → {d : ℕ} → d ≡ f (get_or ys i 0)
       → Judged f ys o (i + 1) (r + tally (eqb d 0)) (set out i d)
   judged-next l {d} e =
-      let ds = mapped f (take i ys) in
-      let more : mapped f (take (i + 1) ys) ≡ ds ++ d ∷ [] =
-      rw (add-one, take-suc ys i 0 l, mapped_more, e) in
+      let ds = map f (take i ys) in
+      let more : map f (take (i + 1) ys) ≡ ds ++ d ∷ [] =
+      map_more f ys i 0 l ∙ ap (λ (x : ℕ). ds ++ x ∷ []) (sym e) in
       record {
         within = omega arith;
         so_far = record {
@@ -155,8 +134,8 @@ module _ {f : ℕ → ℕ} {ys o : List ℕ} {i r : ℕ} {out : List ℕ} (J : J
 
 -- ---- the numbers are distances
 pub mapped-distances : (f : ℕ → ℕ) (n : ℕ) (t u ys : List ℕ) → each (λ y. ltb y (2 ^ n)) ys ≡ true
-    → ((y : ℕ) → y < 2 ^ n → f y ≡ dist n t u y) → mapped f ys ≡ distances n t u ys
-unfolding mapped distances_by each
+    → ((y : ℕ) → y < 2 ^ n → f y ≡ dist n t u y) → map f ys ≡ distances n t u ys
+unfolding distances_by each
 mapped-distances f n t u [] h k = refl
 mapped-distances f n t u (y ∷ ys) h k =
     rw (

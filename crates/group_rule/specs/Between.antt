@@ -1,14 +1,9 @@
 -- What only stands between the functions: a number for each partition on a
 -- list.
-use Rattle.std.specs.Prelude.{ℕ, ◌≤◌, ◌≡◌, Bool, true, List, [], ◌∷◌, length, eqb}
+use Rattle.std.specs.Prelude.{ℕ, ◌≤◌, ◌≡◌, Bool, true, List, length, eqb, map}
 use Rattle.moves.specs.Groups.{met}
 use Rattle.calls.specs.Between.{Wrote}
 use Rattle.group_rule.specs.Zeros.{zeros}
-
--- f of each number on a list
-unfoldable pub mapped : (ℕ → ℕ) → List ℕ → List ℕ
-mapped f [] = []
-mapped f (y ∷ ys) = f y ∷ mapped f ys
 
 -- every group on gs meets y
 abbrev pub all_meet : ℕ → List ℕ → Bool
@@ -23,4 +18,4 @@ pub record Few (nni : Bool) (gs hs : List ℕ) : Type 0 where
 -- f of each of ys is written at the start of out, and r is how many of these
 -- are 0
 abbrev pub Judges : (ℕ → ℕ) → List ℕ → List ℕ → ℕ → List ℕ → Type 0
-Judges f ys = Wrote zeros (mapped f ys)
+Judges f ys = Wrote zeros (map f ys)

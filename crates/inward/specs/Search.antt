@@ -1,17 +1,14 @@
 -- What only stands between the functions of the search for an order: the rows
 -- mixed into places, what a node holds before and after rows came to it, and
 -- what is known on the way inward.
-use Rattle.std.specs.Prelude.{ℕ, zero, suc, ◌+◌, ◌*◌, ◌≤◌, ◌<◌, ◌≡◌, ◌⊎◌, Bool, true, not, ◌&&◌, List, eqb, leb, length, set}
+use Rattle.std.specs.Prelude.{ℕ, zero, suc, ◌+◌, ◌*◌, ◌≤◌, ◌<◌, ◌≡◌, ◌⊎◌, Bool, true, not, ◌&&◌, List, Option, Some, None, Result, Ok, Err, eqb, leb, length, set}
 use Rattle.std.specs.Int.Bits.{bit_xor}
 use Rattle.taxa.specs.Most.{most}
 use Rattle.taxa.specs.Sets.{pick}
 use Rattle.tree.specs.Tree.{rows, nodes, touches, far, count, Valid}
 use Rattle.node_rows.specs.Between.{free, up, first, second, Meet}
 use Rattle.inward.specs.Between.{node, Taken, Given, Order}
-use Rattle.inward.specs.declared.Came.{Came}
-use Rattle.inward.specs.declared.Came.TheVariants.{First, Second, Again}
-use Rattle.inward.specs.declared.Way.{Way}
-use Rattle.inward.specs.declared.Way.TheVariants.{To, Ring}
+use Rattle.inward.specs.declared.Ring.{Ring}
 
 -- ---- rows mixed into places
 
@@ -99,14 +96,14 @@ came_second a w r k =
     set (set (set a (4 * w + 2) r) (4 * w) (last_row a w r)) (4 * k + 3) w
 
 -- row r came to node w, and a' is what that makes of a
-abbrev pub Comes : List ℕ → ℕ → ℕ → ℕ → Came → List ℕ → Type 0
-Comes a w r k First a' = (first a w ≡ free) × (a' ≡ came_first a w r)
-Comes a w r k (Second c) a' =
+abbrev pub Comes : List ℕ → ℕ → ℕ → ℕ → Result (Option ℕ) Ring → List ℕ → Type 0
+Comes a w r k (Ok None) a' = (first a w ≡ free) × (a' ≡ came_first a w r)
+Comes a w r k (Ok (Some c)) a' =
     (first a w ≡ free → ⊥) × (second a w ≡ free) × (c ≡ last_row a w r) × (a' ≡ came_second a w r k)
-Comes a w r k Again a' = second a w ≡ free → ⊥
+Comes a w r k (Err e) a' = second a w ≡ free → ⊥
 
--- the way from taxon i ended, and every row that is taken is given on; or the
--- table is no tree
-abbrev pub Climbed : ℕ → List ℕ → ℕ → Way → List ℕ → Type 0
-Climbed n t i (To k) a = Climbs n t a (suc i) k k
-Climbed n t i Ring a = Valid n t → ⊥
+-- the way from taxon i ended, k nodes are then in the order, and every row that
+-- is taken is given on; or the table is no tree
+abbrev pub Climbed : ℕ → List ℕ → ℕ → Result ℕ Ring → List ℕ → Type 0
+Climbed n t i (Ok k) a = Climbs n t a (suc i) k k
+Climbed n t i (Err e) a = Valid n t → ⊥

@@ -11,22 +11,9 @@ ghost use Rattle.node_rows.specs.Between.{no_rows};
 ghost use Rattle.inward.specs.Between.{Arranged};
 ghost use Rattle.inward.specs.Search.{mixed, Mixed, Climbs, Comes, Climbed};
 
-// How a row comes to a node: as the first there; as the second, and then the
-// third leads on; or two came before it.
+// A way inward closes a ring or leads to a taxon: the table of rows is no tree.
 #[derive(Clone, Copy)]
-enum Came {
-    First,
-    Second(u8),
-    Again,
-}
-
-// Where the way inward from a taxon ends: how many nodes are then in the
-// order, or that the table is no tree.
-#[derive(Clone, Copy)]
-enum Way {
-    To(usize),
-    Ring,
-}
+struct Ring;
 
 // Mixes row r into node v's first place.
 fn mix(a: &mut [u8; node_rows::PLACES], v: usize, r: u8)
@@ -42,21 +29,16 @@ fn mix_rows(n: usize, t: &[u8], a: &mut [u8; node_rows::PLACES])
     requires { (Ordered n t.now) × (a.old ≡ no_rows) }
     ensures { Mixed n t.now a.new (rows n) }
 {
-    let m = 2 * n - 3;
-    let mut i: usize = 0;
-    while i < m {
-        let u = table::lo(t, i);
-        let v = table::hi(t, i);
-        let r = i as u8;
-        mix(a, u, r);
-        mix(a, v, r);
-        i += 1;
+    for r in 0..2 * n - 3 {
+        mix(a, table::lo(t, r), r as u8);
+        mix(a, table::hi(t, r), r as u8);
     }
 }
 
-// Row r comes to the inner node w. As the second it makes w node k of the
-// order.
-fn come(a: &mut [u8; node_rows::PLACES], w: usize, r: u8, k: usize) -> Came
+// Row r comes to the inner node w: as the first there; or as the second, which
+// makes w node k of the order, and gives the third row, which leads on. Where two
+// came before it there is a ring.
+fn come(a: &mut [u8; node_rows::PLACES], w: usize, r: u8, k: usize) -> Result<Option<u8>, Ring>
     requires { (length a.old ≡ 4 * nodes most) × (w < nodes most) × (k < nodes most) }
     ensures { Comes a.old w r k result a.new }
 {
@@ -65,21 +47,28 @@ fn come(a: &mut [u8; node_rows::PLACES], w: usize, r: u8, k: usize) -> Came
     if a[p + 1] == node_rows::FREE {
         a[p + 1] = r;
         a[p] = left;
-        return Came::First;
+        return Ok(None);
     }
     if a[p + 2] != node_rows::FREE {
-        return Came::Again;
+        return Err(Ring);
     }
     let c = left ^ node_rows::FREE;
     a[p + 2] = r;
     a[p] = c;
     a[4 * k + 3] = w as u8;
-    Came::Second(c)
+    Ok(Some(c))
 }
 
 // The way inward from taxon i, k nodes being in the order: on from each node
-// to which a second row comes.
-fn climb(n: usize, t: &[u8], a: &mut [u8; node_rows::PLACES], i: usize, k: usize) -> Way
+// to which a second row comes. How many nodes are then in the order.
+// Kept: a loop, for it follows rows and not an index; c is what it answers.
+fn climb(
+    n: usize,
+    t: &[u8],
+    a: &mut [u8; node_rows::PLACES],
+    i: usize,
+    k: usize,
+) -> Result<usize, Ring>
     requires { let t = t.now in
         (Rowed n t) × (0 < i) × (i < n) × (Climbs n t a.old i k k) }
     ensures { Climbed n t.now i result a.new }
@@ -90,22 +79,15 @@ fn climb(n: usize, t: &[u8], a: &mut [u8; node_rows::PLACES], i: usize, k: usize
     loop {
         let w = table::far(t, r as usize, v);
         if w == 0 {
-            return Way::To(c);
+            return Ok(c);
         }
         if w < n {
-            return Way::Ring;
+            return Err(Ring);
         }
-        match come(a, w, r, c) {
-            Came::First => {
-                return Way::To(c);
-            }
-            Came::Again => {
-                return Way::Ring;
-            }
-            Came::Second(x) => {
-                r = x;
-            }
-        }
+        let Some(x) = come(a, w, r, c)? else {
+            return Ok(c);
+        };
+        r = x;
         v = w;
         c += 1;
     }
@@ -119,17 +101,11 @@ pub fn order(n: usize, t: &[u8], a: &mut [u8; node_rows::PLACES]) -> bool
 {
     mix_rows(n, t, a);
     let mut k: usize = 0;
-    let mut i: usize = 1;
-    while i < n {
-        match climb(n, t, a, i, k) {
-            Way::Ring => {
-                return false;
-            }
-            Way::To(c) => {
-                k = c;
-            }
-        }
-        i += 1;
+    for i in 1..n {
+        let Ok(c) = climb(n, t, a, i, k) else {
+            return false;
+        };
+        k = c;
     }
     k == n - 2
 }

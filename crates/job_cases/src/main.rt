@@ -4,73 +4,53 @@
 
 mod long;
 
-use case_lines::{first, head, title, word};
-use case_lists::given;
-use case_prints::{line, put, say};
+use case_lines::Case;
+use case_lists::bytes;
+use case_prints::line;
+use std::io;
 
 // Writes the line that introduces a job.
-fn introduce(rt: &impl Print, l: &[u8]) {
-    put(rt, b"job ");
-    put(rt, word(l, 1));
-    put(rt, b": ");
-    line(rt, title(l, 3));
+fn introduce(rt: &impl Print, case: Case<'_>) -> io::Result<()> {
+    print!(rt; "job ")?;
+    rt.write_all(case.word(1))?;
+    print!(rt; ": ")?;
+    line(rt, case.title(3))
 }
 
 // A case `job NUMBER BYTES TITLE`: the listing.
-fn listed(rt: &impl Print, l: &[u8], job: &[u8]) {
-    introduce(rt, l);
-    listing_writer::list(rt, job);
+fn listed(rt: &impl Print, case: Case<'_>, job: &[u8]) -> io::Result<()> {
+    introduce(rt, case)?;
+    listing_writer::list(rt, job)
 }
 
 // A case `long NUMBER BYTES TITLE`: the end of the listing.
-fn counted(rt: &impl Print, l: &[u8], job: &[u8]) {
-    introduce(rt, l);
-    long::count(rt, job);
+fn counted(rt: &impl Print, case: Case<'_>, job: &[u8]) -> io::Result<()> {
+    introduce(rt, case)?;
+    long::count(rt, job)
 }
 
 // A case `cuts NUMBER BYTES TITLE`: the listings of the job cut at every place.
-fn cuts(rt: &impl Print, l: &[u8], job: &[u8]) {
-    let mut k: usize = 0;
-    while k < job.len() {
-        put(rt, b"cut to ");
-        say(rt, k as u64);
-        put(rt, b"bytes, ");
-        listed(rt, l, first(job, k));
-        k += 1;
+fn cuts(rt: &impl Print, case: Case<'_>, job: &[u8]) -> io::Result<()> {
+    for k in 0..job.len() {
+        print!(rt; "cut to {k} bytes, ")?;
+        listed(rt, case, &job[..k])?;
     }
+    Ok(())
 }
 
 // Runs a case on its job.
-fn on_job(rt: &impl Print, l: &[u8], job: &[u8]) {
-    match head(l) {
-        b'j' => listed(rt, l, job),
-        b'l' => counted(rt, l, job),
-        b'c' => cuts(rt, l, job),
+fn on_job(rt: &impl Print, case: Case<'_>) -> io::Result<()> {
+    let job = bytes::<{ whole_input::ROOM }>(case, 2);
+    // Kept: the letter stands in the cases; an enum would name each once more for one match.
+    match case.head() {
+        Some(b'j') => listed(rt, case, &job),
+        Some(b'l') => counted(rt, case, &job),
+        Some(b'c') => cuts(rt, case, &job),
         _ => line(rt, b"no such case"),
-    }
-}
-
-// Runs the case in a line.
-fn case(rt: &impl Print, input: &[u8], l: &[u8]) {
-    let mut j = [0u8; whole_input::ROOM];
-    on_job(rt, l, given(input, word(l, 2), &mut j));
-}
-
-// Runs the cases in their order.
-fn run(rt: &impl Print, input: &[u8]) {
-    let m = case_lines::lines(input);
-    let mut k: usize = 0;
-    while k < m {
-        let l = case_lines::line(input, k);
-        if case_lines::is_case(l) {
-            case(rt, input, l);
-        }
-        k += 1;
     }
 }
 
 // Reads the cases and runs them.
 fn main(rt: HostRuntime) {
-    let mut input = [0u8; whole_input::ROOM];
-    run(&rt, case_lines::read(&mut rt.stdin(), &mut input));
+    case_lines::run(&mut rt.stdin(), |case| on_job(&rt, case));
 }

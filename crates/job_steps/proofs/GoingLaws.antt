@@ -8,16 +8,18 @@ use native.Mathlib.Omega.{arith}
 use lib.Dec.{ltb}
 use lib.ListN.{length}
 use borrow.Author.Tests.{ltb-true, ltb-false, lt-ltb, le-ltb}
+use Rattle.std.specs.Prelude.{Option, Some, Result, Ok}
 use Rattle.calls.specs.declared.Refusal.{Refusal}
+use Rattle.calls.specs.declared.RefusedAt.{RefusedAt}
 use Rattle.taxa.specs.Sets.{pick}
 use Rattle.taxa.proofs.Bools.{either}
 use Rattle.job_steps.specs.Job.{nothing, Outcome, next, over, field, longest}
-use Rattle.job_steps.specs.Steps.{Lent, lending, known_of, stepped, told, ended, told_of}
+use Rattle.job_steps.specs.Steps.{Lent, lending, known_of, stepped, told_next, ended, told_of}
 use Rattle.job_steps.specs.Steps.{stepped_says, Steps, holds, lent_by, state_of}
 use Rattle.job_steps.specs.Runs.{first, Roomy}
 use Rattle.job_steps.specs.Sound.{Going, too_long, under_way}
 use Rattle.job_steps.specs.declared.State.{State}
-use Rattle.job_steps.specs.declared.Stepped.{Stepped}
+use Rattle.job_steps.specs.declared.Next.{Next}
 use Rattle.job_steps.proofs.StateLaws.{step_13}
 use Rattle.job_steps.proofs.SoundLaws.{sound_start, sound_next}
 use Rattle.job_steps.proofs.StepIsField.{step_is_field, memory_roomy, memory_keeps}
@@ -56,40 +58,40 @@ going_field job s m (under_way k short sound s_is holds roomy) =
     (le-ltb longest (length job) short))
 
 -- And after a step past a field it goes on so.
-pub going_next : {job : List ℕ} {s t : State} {m m' : Lent} {r : Stepped} {w : ℕ} → Going job s m
-    → r ≡ Stepped.Next t w → Steps job s m r m' → Going job t m'
-going_next {job} {s} {t} {m} {m'} {r} {w} (too_long l roomy) r-is g =
-    let e : gives (told t w) ≡ refuses_at Refusal.Long 0 =
+pub going_next : {job : List ℕ} {s : State} {m m' : Lent} {r : Result (Option Next) RefusedAt}
+    {x : Next} → Going job s m → r ≡ Ok (Some x) → Steps job s m r m' → Going job x.state m'
+going_next {job} {s} {m} {m'} {r} {x} (too_long l roomy) r-is g =
+    let e : gives (told_next x) ≡ refuses_at Refusal.Long 0 =
     sym (ap stepped_says r-is) ∙ g.says ∙ ap (tells told_of) (step_13 job s m l) in
     absurd (let z : ◌≡◌ {A = ℕ} 0 1 = cc in omega arith)
-going_next {job} {s} {t} {m} {m'} {r} {w} (under_way k short sound s_is holds roomy) r-is g =
+going_next {job} {s} {m} {m'} {r} {x} (under_way k short sound s_is holds roomy) r-is g =
     go (field job k) refl
   where
-    answer : gives (told t w) ≡ tells told_of (stepped job s m)
+    answer : gives (told_next x) ≡ tells told_of (stepped job s m)
     answer = sym (ap stepped_says r-is) ∙ g.says
 
     is : stepped job s m ≡ field job k
     is =
-        ap (λ (x : State). stepped job x m) s_is
-        ∙ step_is_field job short sound roomy (ap (λ (x : State). known_of x m) (sym s_is)
+        ap (λ (y : State). stepped job y m) s_is
+        ∙ step_is_field job short sound roomy (ap (λ (y : State). known_of y m) (sym s_is)
         ∙ holds)
 
-    go : (o : Outcome) → field job k ≡ o → Going job t m'
+    go : (o : Outcome) → field job k ≡ o → Going job x.state m'
     go (gives (next k' ls)) h =
-        let says : gives (told t w) ≡ tells told_of (gives (next k' ls)) =
+        let says : gives (told_next x) ≡ tells told_of (gives (next k' ls)) =
         answer ∙ ap (tells told_of) (is ∙ h) in
-        let t_is : t ≡ state_of k' = cc in
+        let t_is : x.state ≡ state_of k' = cc in
         let m_is : m' ≡ lent_by (next k' ls) m =
         g.memory ∙ ap (λ (x : Outcome). lent_then lent_by x m) (is ∙ h) in
         under_way k' short (sound_next sound k' ls h) t_is
         (ap₂ known_of t_is m_is ∙ memory_keeps job short sound roomy k' ls h)
         (subst Roomy (sym m_is) (memory_roomy job short sound roomy k' ls h))
     go (gives over) h =
-        let e : gives (told t w) ≡ gives ended = answer ∙ ap (tells told_of) (is ∙ h) in
+        let e : gives (told_next x) ≡ gives ended = answer ∙ ap (tells told_of) (is ∙ h) in
         absurd (let z : ◌≡◌ {A = ℕ} 0 1 = cc in omega arith)
     go (refuses r) h =
-        let e : gives (told t w) ≡ refuses r = answer ∙ ap (tells told_of) (is ∙ h) in
+        let e : gives (told_next x) ≡ refuses r = answer ∙ ap (tells told_of) (is ∙ h) in
         absurd (let z : ◌≡◌ {A = ℕ} 0 1 = cc in omega arith)
     go (refuses_at r p) h =
-        let e : gives (told t w) ≡ refuses_at r p = answer ∙ ap (tells told_of) (is ∙ h) in
+        let e : gives (told_next x) ≡ refuses_at r p = answer ∙ ap (tells told_of) (is ∙ h) in
         absurd (let z : ◌≡◌ {A = ℕ} 0 1 = cc in omega arith)

@@ -9,14 +9,15 @@ use lib.ListN.{length}
 use borrow.Author.Tests.{leb-true}
 use Rattle.taxa.specs.Sets.{pick}
 use Rattle.calls.specs.Calls.{Said, gives, refuses, refuses_at, tells}
+use Rattle.std.specs.Prelude.{Option, Some, Result, Ok}
 use Rattle.calls.specs.declared.Refusal.{Refusal}
+use Rattle.calls.specs.declared.RefusedAt.{RefusedAt}
 use Rattle.job_steps.specs.Job.{Known, Outcome, next, over, after, field, longest}
 use Rattle.job_steps.specs.Steps.{Lent, known_of, state_said, fitting, stepped, Told, told}
 use Rattle.job_steps.specs.Steps.{ended}
 use Rattle.job_steps.specs.Steps.{told_of, stepped_says, Steps}
 use Rattle.job_steps.specs.declared.State.{State}
-use Rattle.job_steps.specs.declared.Stepped.{Stepped}
-use Rattle.job_steps.specs.declared.Stepped.TheVariants.{Next}
+use Rattle.job_steps.specs.declared.Next.{Next}
 use Rattle.job_steps.proofs.SoundLaws.{field_forward}
 
 -- What is told of a step past a field: its offset lies above `from` and not
@@ -60,11 +61,11 @@ module _ (job : List ℕ) (s : State) (m : Lent) where
   -- A step past a field, from any state, leaves a higher offset, not past the
   -- job's end; and the bytes that it says it wrote are no more than the lent
   -- output has.
-  pub step_forward : {t : State} {w : ℕ} {r : Stepped} {m' : Lent} → r ≡ Next t w
+  pub step_forward : {x : Next} {r : Result (Option Next) RefusedAt} {m' : Lent} → r ≡ Ok (Some x)
       → Steps job s m r m'
-      → (s.at < t.at) × (t.at ≤ length job) × (w ≤ length m.out)
-  step_forward {t} {w} {r} {m'} r-is g =
-      let says : tells told_of (stepped job s m) ≡ stepped_says (Next t w) =
+      → (s.at < x.state.at) × (x.state.at ≤ length job) × (x.wrote ≤ length m.out)
+  step_forward {x} {r} {m'} r-is g =
+      let says : tells told_of (stepped job s m) ≡ stepped_says (Ok (Some x)) =
       sym g.says ∙ ap stepped_says r-is in
       subst (Forward s.at (length job) (length m.out)) says
       (on_step (ltb longest (length job)) (state_said s m))

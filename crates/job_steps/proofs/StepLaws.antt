@@ -14,11 +14,11 @@ use borrow.Author.Tests.{le-leb, lt-leb, leb-true, leb-false, eqb-true}
 use Rattle.taxa.specs.Sets.{pick}
 use Rattle.taxa.proofs.Bools.{either}
 use Rattle.tree.specs.Tree.{rows}
-use Rattle.calls.specs.Calls.{Check, Said, gives, judged, at_start, refuses_at, tells, ◌else◌}
-use Rattle.calls.specs.Calls.{lent_then}
+use Rattle.calls.specs.Calls.{Check, Said, gives, judged, at_start, refuses_at, ◌else◌}
 use Rattle.tree.specs.Refusals.{tree_checks, partitions_checks, room_checks}
-use Rattle.calls.proofs.CheckLaws.{judged-next, judged_fail}
-use Rattle.calls.proofs.CallLaws.{call-is, call-refuses_at, call-refused, call-given}
+use Rattle.calls.proofs.CheckLaws.{judged-next}
+use Rattle.calls.proofs.CallLaws.{call-is, call-refused, call-given}
+use Rattle.std.specs.Prelude.{Result, Ok, Err}
 use Rattle.calls.specs.declared.Refusal.{Refusal}
 use Rattle.moves.specs.Moves.{Move, moved, move_checks}
 use Rattle.moves.proofs.AnyMove.Named.{moved_length}
@@ -26,13 +26,12 @@ use Rattle.fields.specs.Fields.{content_at, move_in, allowed_of, allowed, length
 use Rattle.fields.proofs.FieldLaws.{Framed}
 use Rattle.lines.proofs.Placing.{placed_start}
 use Rattle.move_listing.specs.Listing.{lines_of, lines_said, Page, page, Lists}
-use Rattle.move_listing.specs.declared.Lines.{Lines}
 use Rattle.job_steps.specs.Job.{Known, Outcome, next, after, move_step}
-use Rattle.job_steps.specs.Steps.{Lent, lending, held_table, known_of, fitting, told, told_of}
+use Rattle.job_steps.specs.Steps.{Lent, lending, held_table, known_of, fitting, told}
 use Rattle.job_steps.specs.Between.{Held}
-use Rattle.job_steps.specs.Steps.{stepped_says, Gives, lent_by, state_of}
+use Rattle.job_steps.specs.Steps.{GivesFrom, state_of}
 use Rattle.job_steps.specs.declared.State.{State}
-use Rattle.job_steps.specs.declared.Stepped.{Stepped}
+use Rattle.job_steps.specs.declared.Next.{Next}
 
 -- ---- the lent memory
 
@@ -53,17 +52,6 @@ put-taken n l = go (either (leb n (length l)))
         ap (λ (x : List ℕ). x ++ drop (length x) l) whole
         ∙ ap (λ (x : List ℕ). l ++ x) (drop_of_length-le l {i = length l} (omega arith))
         ∙ append-nil l
-
--- ---- a refusal that leaves the memory
-pub gives-refused : {m : Lent} {o : Outcome} (a : Stepped) {k : Refusal} {p : ℕ}
-    → stepped_says a ≡ refuses_at k p
-    → o ≡ refuses_at k p → Gives o a m m
-gives-refused {m} a w e =
-    record {
-      says = w ∙ sym (ap (tells told_of) e);
-      memory =
-          sym (ap (λ (x : Outcome). lent_then lent_by x m) e);
-    }
 
 -- ---- what a state holds
 
@@ -133,8 +121,8 @@ outcome_of ((true else r) ∷ cs) a f k ls at m e lt lp = outcome_of cs a f k ls
 outcome_of ((false else r) ∷ cs) a f k ls at m e lt lp = refl
 
 -- What a step over a move gives.
-abbrev MoveGives : List ℕ → State → Lent → Stepped → Lent → Type 0
-MoveGives job s m r m' = Gives (fitting s.at m (move_step job (known_of s m))) r m m'
+abbrev MoveGives : List ℕ → State → Lent → Result Next Refusal → Lent → Type 0
+MoveGives job s m r m' = GivesFrom s.at (fitting s.at m (move_step job (known_of s m))) r m m'
 
 -- The outcome by the checks of the field and by the table, which is held.
 by_checks : State → Lent → Said Move → List ℕ → Outcome
@@ -149,13 +137,6 @@ by_checks s m x u =
       moves = s.moves + 1;
     })
     (lines_of s.taxa u (take s.parts m.parts) a (s.moves + 1)))))
-
-pub move_12 : (job : List ℕ) (s : State) {m : Lent} → length_right job s.at 4 ≡ false
-    → MoveGives job s m (Stepped.Refused Refusal.Field s.at) m
-unfolding by_checks
-move_12 job s {m} e = call-refuses_at Refusal.Field s.at
-    (ap (λ (x : Said Move). by_checks s m x (known_of s m).table)
-    (judged_fail (length_right job s.at 4) Refusal.Field _ (move_in (content_at job s.at 4)) e))
 
 -- The move a is read from the field of a state that passes its checks, past the table's field,
 -- with a table of d bytes.
@@ -189,12 +170,6 @@ module _ {job : List ℕ} {s : State} {table parts out : List ℕ} {d : ℕ} {a 
 
   table-length : length t ≡ l
   table-length = length-take-le l table table-there
-
-  pub part-there : d ≤ length table
-  part-there = omega (arith, R.long, table-there)
-
-  pub part_length : d ≡ length (take d table)
-  part_length = sym (length-take-le d table part-there)
 
   abbrev checks : List ℕ → List Check
   checks u = tree_checks s.taxa u ++ partitions_checks s.taxa ys ++ move_checks s.taxa u mv
@@ -233,8 +208,8 @@ module _ {job : List ℕ} {s : State} {table parts out : List ℕ} {d : ℕ} {a 
   s' = record { at = s.at + 7; taxa = s.taxa; parts = s.parts; moves = s.moves + 1 }
 
   move-refused : (r : Refusal) (t' out' : List ℕ)
-      → Lists s.taxa ys mv (s.moves + 1) 0 (page t out) (Lines.Refused r) (page t' out')
-      → MoveGives job s m (Stepped.Refused r s.at) (lending (t' ++ drop l table) parts out')
+      → Lists s.taxa ys mv (s.moves + 1) 0 (page t out) (Err r) (page t' out')
+      → MoveGives job s m (Err r) (lending (t' ++ drop l table) parts out')
   move-refused r t' out' L =
       let w = call-refused L in
       let q = same ∙ ap (with_lines s.at k') w.0 in
@@ -248,8 +223,9 @@ module _ {job : List ℕ} {s : State} {table parts out : List ℕ} {d : ℕ} {a 
       })
 
   move-done : (w : ℕ) (t' out' : List ℕ)
-      → Lists s.taxa ys mv (s.moves + 1) 0 (page t out) (Lines.To w) (page t' out')
-      → MoveGives job s m (Stepped.Next s' w) (lending (t' ++ drop l table) parts out')
+      → Lists s.taxa ys mv (s.moves + 1) 0 (page t out) (Ok w) (page t' out')
+      → MoveGives job s m (Ok (record { state = s'; wrote = w }))
+      (lending (t' ++ drop l table) parts out')
   move-done w t' out' L =
       let g = call-given L in
       let y = g.0 in
@@ -269,14 +245,15 @@ module _ {job : List ℕ} {s : State} {table parts out : List ℕ} {d : ℕ} {a 
       })
 
   -- The same as the code has the table's length and the move.
-  pub refused-there : {x : Lines} {r : Refusal} {t' out' : List ℕ} → x ≡ Lines.Refused r
+  pub refused-there : {x : Result ℕ Refusal} {r : Refusal} {t' out' : List ℕ} → x ≡ Err r
       → Lists s.taxa ys a (s.moves + 1) 0 (page (take d table) out) x (page t' out')
-      → MoveGives job s m (Stepped.Refused r s.at) (lending (t' ++ drop d table) parts out')
+      → MoveGives job s m (Err r) (lending (t' ++ drop d table) parts out')
   refused-there {x} {r} {t'} {out'} x-is L =
       rw R.long (move-refused r t' out' (rw (R.long, R.is, x-is) at L))
 
-  pub done-there : {x : Lines} {w : ℕ} {t' out' : List ℕ} → x ≡ Lines.To w
+  pub done-there : {x : Result ℕ Refusal} {w : ℕ} {t' out' : List ℕ} → x ≡ Ok w
       → Lists s.taxa ys a (s.moves + 1) 0 (page (take d table) out) x (page t' out')
-      → MoveGives job s m (Stepped.Next s' w) (lending (t' ++ drop d table) parts out')
+      → MoveGives job s m (Ok (record { state = s'; wrote = w }))
+      (lending (t' ++ drop d table) parts out')
   done-there {x} {w} {t'} {out'} x-is L =
       rw R.long (move-done w t' out' (rw (R.long, R.is, x-is) at L))

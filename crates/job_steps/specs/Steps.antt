@@ -1,17 +1,18 @@
 -- A step over one field from the state the last step gave: what it promises,
 -- for every state and every lent memory.
 use Rattle.std.specs.Prelude.{ℕ, Bool, ◌&&◌, ◌||◌, List, [], ◌∷◌, eqb, ltb, leb, length, take}
+use Rattle.std.specs.Prelude.{Option, Some, None, Result}
 use Rattle.calls.specs.declared.Refusal.{Refusal}
+use Rattle.calls.specs.declared.RefusedAt.{RefusedAt}
 use Rattle.calls.specs.Calls.{Check, Said, gives, refuses_at, judged, then_said, Call, tells, at_start}
-use Rattle.calls.specs.Calls.{◌else◌}
+use Rattle.calls.specs.Calls.{◌else◌, says, says_at, placed_at}
 use Rattle.taxa.specs.Sets.{pick}
 use Rattle.tree.specs.Editions.{Edition, narrow}
 use Rattle.tree.specs.Tree.{rows}
 use Rattle.fields.specs.Fields.{table_place}
 use Rattle.job_steps.specs.Job.{Known, Fielded, next, over, Outcome, after, field_of, longest}
 use Rattle.job_steps.specs.declared.State.{State}
-use Rattle.job_steps.specs.declared.Stepped.{Stepped}
-use Rattle.job_steps.specs.declared.Stepped.TheVariants.{Next, Ended, Refused}
+use Rattle.job_steps.specs.declared.Next.{Next}
 
 -- ---- what is lent
 
@@ -111,10 +112,20 @@ abbrev pub told_of : Fielded → Told
 told_of (next k ls) = told (state_of k) (length ls)
 told_of over = ended
 
-abbrev pub stepped_says : Stepped → Said Told
-stepped_says (Next s w) = gives (told s w)
-stepped_says Ended = gives ended
-stepped_says (Refused r p) = refuses_at r p
+-- The same of the answer of a step.
+abbrev pub told_next : Next → Told
+told_next x = told x.state x.wrote
+
+abbrev pub told_step : Option Next → Told
+told_step (Some x) = told_next x
+told_step None = ended
+
+abbrev pub stepped_says : Result (Option Next) RefusedAt → Said Told
+stepped_says r = tells told_step (says_at r)
+
+-- And of a step past a field at an offset, whose refusal has no place yet.
+abbrev pub says_from : ℕ → Result Next Refusal → Said Told
+says_from at r = tells told_next (placed_at at (says r))
 
 -- ---- what the lent memory becomes
 
@@ -128,11 +139,15 @@ lent_by over m = m
 -- ---- the promise
 
 -- Of an outcome, and of a step.
-abbrev pub Gives : Outcome → Stepped → Lent → Lent → Type 0
+abbrev pub Gives : Outcome → Result (Option Next) RefusedAt → Lent → Lent → Type 0
 Gives o r m m' = Call (tells told_of) lent_by o m (stepped_says r) m'
 
-abbrev pub Steps : List ℕ → State → Lent → Stepped → Lent → Type 0
+abbrev pub Steps : List ℕ → State → Lent → Result (Option Next) RefusedAt → Lent → Type 0
 Steps job s m r m' = Gives (stepped_of narrow job s m) r m m'
+
+-- And of a step past a field at an offset.
+abbrev pub GivesFrom : ℕ → Outcome → Result Next Refusal → Lent → Lent → Type 0
+GivesFrom at o r m m' = Call (tells told_of) lent_by o m (says_from at r) m'
 
 -- ---- in the narrow edition
 abbrev pub held_table : State → List ℕ → List ℕ

@@ -1,13 +1,12 @@
 // What a step over a job says, and what follows of its listing; the state
-// between two steps and the answer of one.
+// between two steps and what a step gives. It answers with none where the job is
+// over, or with a refusal and its place.
 #![tactic(auto)]
 
 ghost use Rattle.std.specs.Prelude.{◌*◌, ◌≤◌, ◌≡◌};
 ghost use Rattle.taxa.specs.Most.{most};
 ghost use Rattle.tree.specs.Tree.{rows};
 ghost use Rattle.job_steps.specs.Runs.{first};
-
-use calls::Refusal;
 
 // Room for any job: bytes for the table and bytes for one move's lines. That
 // with taxa::PARTITIONS numbers they are enough is the law room-enough in
@@ -28,13 +27,12 @@ pub struct State {
     pub moves: u64,
 }
 
-// The answer of a step: the next state and how many bytes of lines were
-// written; that the job is over; or a refusal and its place.
+// What a step past a field gives: the next state, and how many bytes of lines
+// were written.
 #[derive(Clone, Copy)]
-pub enum Stepped {
-    Next { state: State, wrote: usize },
-    Ended,
-    Refused { why: Refusal, place: usize },
+pub struct Next {
+    pub state: State,
+    pub wrote: usize,
 }
 
 // The state before the first field.
@@ -54,8 +52,5 @@ pub fn table_bytes(n: usize) -> usize
     requires { n ≤ most }
     ensures { result ≡ 2 * rows n }
 {
-    if n < 2 {
-        return 0;
-    }
-    2 * (2 * n - 3)
+    2 * (2 * n).saturating_sub(3)
 }

@@ -1,94 +1,84 @@
 -- The groups on the two sides of a plan: what they ask for, and that the
 -- numbers from them are the distances of the trees before and after the move.
 -- Assumes nothing.
-use mathlib.Core.Path.{◌≡◌, ap, ap₂, ◌∙◌}
-use mathlib.Core.Bool.{true, false}
-use mathlib.Core.List.{List}
+use mathlib.Core.Path.{◌≡◌, sym, ap, ◌∙◌}
+use mathlib.Core.Bool.{Bool, true}
+use mathlib.Core.List.{List, [], ◌∷◌}
 use Prim.Native.Nat.{ℕ, ◌^◌, ◌≤◌, ◌<◌}
 use native.Mathlib.Omega.{arith}
 use lib.Dec.{ltb}
-use lib.ListN.{length, take}
-use borrow.Author.Tests.{le-ltb}
-use Rattle.tree.specs.Splits.{dist, distances}
-use Rattle.tree.specs.Refusals.{each}
+use lib.ListN.{length, get_or}
+use borrow.Author.Tests.{le-ltb, lt-ltb}
+use Rattle.taxa.specs.Most.{most}
+use Rattle.tree.specs.Splits.{dist, distances_by, distances}
+use Rattle.tree.specs.Refusals.{each, Accepted}
 use Rattle.moves.specs.Groups.{stayed}
-use Rattle.moves.specs.Between.{plan_moved, SideRight, side_groups, by_groups}
+use Rattle.std.specs.Prelude.{None, is_some}
+use Rattle.moves.specs.Between.{Planned, plan_moved, side_groups, by_groups}
 use Rattle.moves.specs.declared.Side.{Side}
 use Rattle.moves.specs.declared.Plan.{Plan}
 use Rattle.moves.proofs.AnyMove.Plans.{PlanRight, plan-right, plan-dist}
 use Rattle.calls.specs.Calls.{at_start}
 use Rattle.calls.specs.Between.{Wrote}
-use Rattle.calls.proofs.StartLaws.{wrote-take}
 use Rattle.moved_rows.specs.Between.{Rewrites}
-use Rattle.move_groups.specs.Between.{Asked, Listed, room}
 use Rattle.group_rule.specs.Zeros.{zeros}
 use Rattle.group_rule.specs.Between.{Few, Judges}
 use Rattle.group_rule.proofs.Judging.{mapped-distances}
 use Rattle.door.specs.Between.{Ready}
+use Rattle.judge.specs.Between.{Judgeable}
 
 -- an inner node that stays has two groups
-inner-two : (n : ℕ) (t : List ℕ) (a : ℕ) (s : Side) → n ≤ s.node → s.goes ≡ false
+inner-two : (n : ℕ) (t : List ℕ) (a : ℕ) (s : Side) → n ≤ s.node → s.target ≡ None
     → length (side_groups n t a s) ≡ 2
 unfolding side_groups stayed
 inner-two n t a s l h = rw (h, le-ltb s.node n l)
 
-module _ {n : ℕ} {t near s : List ℕ} {p : Plan} (R : Ready n t near s p) where
-  rights : PlanRight n t p
-  rights = plan-right R.looked.good.valid R.plan
+-- what the rewriting of the rows asks for
+pub ready_rewrites : {n : ℕ} {t near s : List ℕ} {p : Plan} → Ready n t near s p → Rewrites n t near p
+ready_rewrites R = record { good = R.looked.good; holds = R.looked.rows; plan = R.plan }
 
-  -- ---- what the rewriting of the rows asks for
-  pub ready_rewrites : Rewrites n t near p
-  ready_rewrites = record { good = R.looked.good; holds = R.looked.rows; plan = R.plan }
-
+module _ {n : ℕ} {t : List ℕ} {p : Plan} (good : Accepted n t) (P : Planned n t p) where
   -- ---- what the groups ask for
-  side_asked : {side : Side} {out : List ℕ} → SideRight n t p.row side → length out ≡ room
-      → Asked n t near s p.row side out
-  side_asked right l =
-      record { looked = R.looked; row = rights.row; right = right; for_groups = l }
+  pub rights : PlanRight n t p
+  rights = plan-right good.valid P
 
-  pub first_asked : {out : List ℕ} → length out ≡ room → Asked n t near s p.row p.first out
-  first_asked = side_asked rights.first
-
-  pub second_asked : {out : List ℕ} → length out ≡ room → Asked n t near s p.row p.second out
-  second_asked = side_asked rights.second
-
-  -- ---- those that were listed
-  module _ {gs gs' hs hs' : List ℕ} {k j : ℕ}
-      (g : Listed room (side_groups n t p.row p.first) gs k gs')
-      (h : Listed room (side_groups n t p.row p.second) hs j hs') where
-    pub listed_few : Few p.nni (take k gs') (take j hs')
-    listed_few = record {
-      first = omega (arith, ap length (wrote-take g.wrote), g.wrote.count, g.few);
-      second = omega (arith, ap length (wrote-take h.wrote), h.wrote.count, h.few);
-      twos = λ q. (
-        ap length (wrote-take g.wrote)
-            ∙ inner-two n t p.row p.first (rights.inner q).0 (rights.stay q).0,
-        ap length (wrote-take h.wrote)
-            ∙ inner-two n t p.row p.second (rights.inner q).1 (rights.stay q).1,
-      );
+  -- ---- those that were listed, few by the room of a list
+  module _ {nni : Bool} {gs hs : List ℕ} (k : nni ≡ is_some p.exchanged)
+      (g : gs ≡ side_groups n t p.row p.first) (h : hs ≡ side_groups n t p.row p.second) where
+    pub listed_few : length gs ≤ most → length hs ≤ most → Few nni gs hs
+    listed_few a b = record {
+      first = omega arith;
+      second = omega arith;
+      twos = λ q.
+          let e = sym k ∙ q in (
+            ap length g ∙ inner-two n t p.row p.first (rights.inner e).0 (rights.stay e).0,
+            ap length h ∙ inner-two n t p.row p.second (rights.inner e).1 (rights.stay e).1,
+          );
     }
 
-    listed_dist : (y : ℕ) → y < 2 ^ n
-        → by_groups p.nni (take k gs') (take j hs') y ≡ dist n t (plan_moved n t p) y
-    listed_dist y l =
-        ap₂ (λ (x z : List ℕ). by_groups p.nni x z y) (wrote-take g.wrote)
-        (wrote-take h.wrote)
-        ∙ plan-dist R.looked.good.valid R.plan y l
-
-    pub listed_one : {y d : ℕ} → y < 2 ^ n
-        → d ≡ by_groups p.nni (take k gs') (take j hs') y
-        → d ≡ dist n t (plan_moved n t p) y
-    listed_one {y} l e = e ∙ listed_dist y l
+    listed_dist : (y : ℕ) → y < 2 ^ n → by_groups nni gs hs y ≡ dist n t (plan_moved n t p) y
+    listed_dist y l = rw (k, g, h) (plan-dist good.valid P y l)
 
     pub listed_told : (ys out : List ℕ) {r : ℕ} {out' : List ℕ}
         → each (λ y. ltb y (2 ^ n)) ys ≡ true
-        → Judges (by_groups p.nni (take k gs') (take j hs')) ys out r out'
+        → Judges (by_groups nni gs hs) ys out r out'
         → Wrote zeros (distances n t (plan_moved n t p) ys) out r out'
     listed_told ys out all J =
-        let u = plan_moved n t p in
-        let e = mapped-distances (by_groups p.nni (take k gs') (take j hs')) n t u ys all
-        listed_dist in
+        let e = mapped-distances (by_groups nni gs hs) n t (plan_moved n t p) ys all listed_dist in
         record {
           count = J.count ∙ ap zeros e;
           memory = J.memory ∙ ap (λ (ds : List ℕ). at_start ds out) e;
         }
+
+-- ---- a list of one partition
+pub one_judged : {n y : ℕ} → y < 2 ^ n → Judgeable n (y ∷ []) (0 ∷ [])
+unfolding each
+one_judged {n} {y} l = record { within = rw (lt-ltb y (2 ^ n) l); room = omega arith }
+
+pub one_written : (n y : ℕ) (t u : List ℕ) {r : ℕ} {out : List ℕ}
+    → Wrote zeros (distances n t u (y ∷ [])) (0 ∷ []) r out → get_or out 0 0 ≡ dist n t u y
+unfolding distances_by
+one_written n y t u w = rw w.memory
+
+-- what the check is to use
+pub ruleset of_one = (one_judged, one_written)

@@ -5,7 +5,7 @@ use mathlib.Core.Bool.{Bool, true, false}
 use mathlib.Core.List.{[], ◌∷◌, ◌++◌, append_assoc}
 use mathlib.Core.Logic.{◌⊎◌, inl, inr, ⊎_elim}
 use Prim.Native.Nat.{ℕ, zero, suc, ◌+◌, ◌*◌, ◌-◌, ◌/◌, ◌%◌, ◌^◌, ◌≤◌, ◌<◌}
-use native.Mathlib.Nat.{one-le-pow, mul-le-mul}
+use native.Mathlib.Nat.{one-le-pow}
 use native.Mathlib.Numerals.{add-one}
 use native.Mathlib.Omega.{arith, pow_step}
 use lib.ListN.{length, length-append}
@@ -14,7 +14,6 @@ use mir.Val.{Fits}
 use lib.Dec.{eqb, ltb, leb}
 use borrow.Author.Tests.{lt-ltb, le-ltb, ltb-true, ltb-false, le-leb, lt-leb, eq-eqb, ne_eqb}
 use borrow.Author.Tests.{eqb-true, eqb-false}
-use Rattle.taxa.specs.Most.{most_partitions}
 use Rattle.taxa.specs.Sets.{pick}
 use Rattle.taxa.proofs.Bools.{either}
 use Rattle.io.specs.Digits.{last_digits, hex_digit_ascii, IsDigitCount}
@@ -128,12 +127,6 @@ bin-few (suc f) i s k = go (leb (10 * s) (i * k)) (bin-few f (suc i) s k)
     go true h = omega arith
     go false h = omega (arith, h)
 
-pub bin_fits : {i k : ℕ} → i < 10 → k ≤ most_partitions → i * k ≤ 10 * most_partitions
-bin_fits {i} {k} l h = omega (
-  arith,
-  mul-le-mul {n₁ = i} {m₁ = k} {n₂ = 10} {m₂ = most_partitions} (omega arith) h,
-)
-
 -- the search for it, a turn of the loop at a time; c is what it comes to
 module _ (s k i : ℕ) {c : ℕ} where
   pub bin-here : i < 10 → 10 * s ≤ i * k → bin_from (10 - i) i s k ≡ c → i ≡ c
@@ -153,6 +146,8 @@ module _ (s k i : ℕ) {c : ℕ} where
   pub bin-last : 10 ≤ i → bin_from (10 - i) i s k ≡ c → i ≡ c
   unfolding bin_from
   bin-last h = let e : 10 - i ≡ 0 = omega arith in rw e (λ q. q)
+
+pub ruleset bin_steps = (bin-here, bin-next, bin-last)
 
 module _ (s k : ℕ) where
   pub class_none : s ≡ 0 → class_name s k ≡ none_word
@@ -194,6 +189,8 @@ module _ (s k : ℕ) where
       (either (eqb s k)))
       (either (eqb s 0))
 
+pub ruleset class_bytes = (none-bytes, full-bytes, part_bytes)
+
 -- ---- the lines
 module _ (m p d : ℕ) where
   pub same_pieces : d ≡ 0 → verdict_line m p d ≡ decimal m ++ blank ++ decimal p ++ same_word
@@ -233,6 +230,8 @@ module _ (m p d : ℕ) where
       ))
       (either (eqb d 0))
 
+pub ruleset verdict_bytes = (verdict_least, same_bytes, changed_bytes)
+
 module _ (m s c k : ℕ) where
   pub saved_bytes : length (saved_line m s c k)
       ≡ length (decimal m) + 7 + length (decimal s) + 1 + length (class_name c k) + 1
@@ -251,3 +250,5 @@ pub refused-bytes : (r p : ℕ)
     → length (refused_line r p) ≡ 8 + length (decimal r) + 4 + length (decimal p) + 1
 unfolding refused_line refused_word at_word
 refused-bytes r p = simp length-append (omega arith)
+
+pub ruleset line_bytes = (saved_bytes, end_bytes, refused-bytes)

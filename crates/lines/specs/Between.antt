@@ -6,3 +6,9 @@ use Rattle.lines.specs.Lines.{placed}
 pub record WroteAt (w : List ℕ) (at : ℕ) (out : List ℕ) (r : ℕ) (out' : List ℕ) : Type 0 where
   pub place : r ≡ at + length w
   pub memory : out' ≡ placed out at w
+
+-- What takes bytes took w, and has so much less room.
+pub record Takes {S : Type 0} (room : S → ℕ) (took : S → List ℕ → S → Type 0) (s : S) (w : List ℕ)
+    (t : S) : Type 0 where
+  pub bytes : took s w t
+  pub less : room t + length w ≡ room s

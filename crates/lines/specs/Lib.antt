@@ -1,3 +1,4 @@
 pub mod Lines
 pub mod Plain
 pub mod Between
+pub mod Room

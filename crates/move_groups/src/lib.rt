@@ -2,18 +2,36 @@
 // sides of the rows alone.
 #![tactic(auto)]
 
-ghost use Rattle.std.specs.Prelude.{◌<◌, ◌≤◌, ◌≡◌, true, false};
+ghost use Rattle.std.specs.Prelude.{◌<◌, ◌≤◌, ◌≡◌, []};
 ghost use Rattle.tree.specs.Tree.{rows};
-ghost use Rattle.sides.specs.Between.{At, Sides, Sided, Looked};
+ghost use Rattle.node_rows.specs.Between.{Near};
+ghost use Rattle.sides.specs.Between.{At, Sided};
 ghost use Rattle.moves.specs.Moves.{end_with, target};
 ghost use Rattle.moves.specs.Groups as groups_spec;
-ghost use Rattle.moves.specs.Between.{side_groups};
-ghost use Rattle.move_groups.specs.Between.{room, Paced, Asked, Listed};
+ghost use Rattle.moves.specs.Between.{Aims, SideRight, side_groups};
+ghost use Rattle.move_groups.specs.Between.{Paced};
+ghost use Rattle.move_groups.specs.Props.{Sided-prop};
 
+use arrayvec::ArrayVec;
 use moves::Side;
 
-// How many groups a lent list has room for: each has a taxon of its own.
-pub const ROOM: usize = taxa::MOST;
+// How many groups a list has room for: each has a taxon of its own.
+const ROOM: usize = taxa::MOST;
+
+// The groups on one side of a row.
+pub type Groups = ArrayVec<u64, ROOM>;
+
+// A tree that was looked at: how many taxa it has, its table, the rows at each
+// node, and the side of every row. That these are its sides is part of it; that
+// these are its rows is asked for where they are read.
+#[derive(Clone, Copy)]
+pub struct TreeView<'a> {
+    pub n: usize,
+    pub table: &'a [u8],
+    pub near: &'a [u8],
+    pub sides: &'a [u64],
+    pub ghost sided: { Sided n table.now sides.now } by { Sided-prop n table.now sides.now },
+}
 
 // A step of a way: the row that leads on, and the taxa beyond the other.
 #[derive(Clone, Copy)]
@@ -22,154 +40,122 @@ struct Step {
     off: u64,
 }
 
-// The taxa beyond row x, seen from its end v.
-pub fn beyond(n: usize, t: &[u8], s: &[u64], v: usize, x: usize) -> u64
-    requires { let t = t.now in (At n t x v) × (Sides n t s.now) }
-    ensures { result ≡ groups_spec.beyond n t.now v x }
-{
-    sides::across(n, t, x, v, s[x])
-}
+impl TreeView<'_> {
+    // The taxa beyond row x, seen from its end v.
+    #[tactic(auto, unfolding(moves::specs::Groups::beyond))]
+    pub fn beyond(&self, v: usize, x: usize) -> u64
+        requires { At self.now.n self.now.table.now x v }
+        ensures { result ≡ groups_spec.beyond self.now.n self.now.table.now v x }
+    {
+        sides::across(self.n, self.table, x, v, self.sides[x])
+    }
 
-// Whether row x, seen from its end v, is row b or leads to it.
-pub fn leads(n: usize, t: &[u8], s: &[u64], b: usize, v: usize, x: usize) -> bool
-    requires { let t = t.now in (At n t x v) × (Sides n t s.now) × (b < rows n) }
-    ensures { result ≡ groups_spec.leads n t.now b v x }
-{
-    if x == b {
-        return true;
-    }
-    let y = beyond(n, t, s, v, x);
-    let i = y & s[b];
-    if i == 0 {
-        return false;
-    }
-    i != y
-}
-
-// The end of row a in the part where row b is.
-pub fn end_with(n: usize, t: &[u8], s: &[u64], a: usize, b: usize) -> usize
-    requires { (Sided n t.now s.now) × (a < rows n) × (b < rows n) × (a ≡ b → ⊥) }
-    ensures { result ≡ end_with n t.now a b }
-{
-    let p = table::lo(t, a);
-    let q = table::hi(t, a);
-    if leads(n, t, s, b, q, a) {
-        return p;
-    }
-    q
-}
-
-// Whether row b can be the target of row a's end v.
-pub fn is_target(n: usize, t: &[u8], s: &[u64], a: usize, v: usize, b: usize) -> bool
-    requires { let t = t.now in (At n t a v) × (Sides n t s.now) × (b < rows n) }
-    ensures { result ≡ target n t.now a v b }
-{
-    if v < n {
-        return b == a;
-    }
-    if b == a {
-        return false;
-    }
-    let w = table::far(t, a, v);
-    leads(n, t, s, b, w, a)
-}
-
-// At the inner node v, come by row e: the row that leads on to b, and the taxa
-// beyond the other.
-fn pace(n: usize, t: &[u8], near: &[u8], s: &[u64], b: usize, v: usize, e: usize) -> Step
-    requires { let t = t.now in
-        (At n t e v) × (n ≤ v) × (b < rows n) × (Looked n t near.now s.now) }
-    ensures { Paced n t.now b v e result.on result.off }
-{
-    let o = node_rows::others(near, e, v);
-    let f = o.f;
-    let g = o.g;
-    if leads(n, t, s, b, v, f) {
-        let h = beyond(n, t, s, v, g);
-        return Step { on: f, off: h };
-    }
-    let h = beyond(n, t, s, v, f);
-    Step { on: g, off: h }
-}
-
-// The groups on the way from an end of row a that goes to its target, at the
-// start of the lent list: how many.
-fn way(
-    n: usize,
-    t: &[u8],
-    near: &[u8],
-    s: &[u64],
-    a: usize,
-    end: Side,
-    out: &mut [u64; ROOM],
-) -> usize
-    requires { (Asked n t.now near.now s.now a end out.old) × (end.goes ≡ true) }
-    ensures { let gs = side_groups n t.now a end in
-        Listed room gs out.old result out.new }
-{
-    let b = end.target;
-    let mut w = end.node;
-    let mut e = a;
-    let mut c: usize = 0;
-    loop {
-        let p = pace(n, t, near, s, b, w, e);
-        let on = p.on;
-        out[c] = p.off;
-        c += 1;
-        if on == b {
-            out[c] = beyond(n, t, s, w, b);
-            return c + 1;
+    // Whether row x, seen from its end v, is row b or leads to it.
+    pub fn leads(&self, b: usize, v: usize, x: usize) -> bool
+        requires { (At self.now.n self.now.table.now x v) × (b < rows self.now.n) }
+        ensures { result ≡ groups_spec.leads self.now.n self.now.table.now b v x }
+    {
+        if x == b {
+            return true;
         }
-        w = table::far(t, on, w);
-        e = on;
+        let y = self.beyond(v, x);
+        let i = y & self.sides[b];
+        i != 0 && i != y
     }
-}
 
-// The groups of an end of row a that stays, at the start of the lent list: how
-// many.
-fn stays(
-    n: usize,
-    t: &[u8],
-    near: &[u8],
-    s: &[u64],
-    a: usize,
-    end: Side,
-    out: &mut [u64; ROOM],
-) -> usize
-    requires { (Asked n t.now near.now s.now a end out.old) × (end.goes ≡ false) }
-    ensures { let gs = side_groups n t.now a end in
-        Listed room gs out.old result out.new }
-{
-    let v = end.node;
-    if v < n {
-        out[0] = taxa::only(v);
-        return 1;
+    // The end of row a in the part where row b is.
+    pub fn end_with(&self, a: usize, b: usize) -> usize
+        requires { let n = self.now.n in (a < rows n) × (b < rows n) × (a ≡ b → ⊥) }
+        ensures { result ≡ end_with self.now.n self.now.table.now a b }
+    {
+        let p = table::lo(self.table, a);
+        let q = table::hi(self.table, a);
+        if self.leads(b, q, a) { p } else { q }
     }
-    let o = node_rows::others(near, a, v);
-    let f = o.f;
-    let g = o.g;
-    out[0] = beyond(n, t, s, v, f);
-    out[1] = beyond(n, t, s, v, g);
-    2
-}
 
-// The groups on the side of an end of row a, at the start of the lent list:
-// how many.
-pub fn groups(
-    n: usize,
-    t: &[u8],
-    near: &[u8],
-    s: &[u64],
-    a: usize,
-    end: Side,
-    out: &mut [u64; ROOM],
-) -> usize
-    requires { Asked n t.now near.now s.now a end out.old }
-    ensures { let gs = side_groups n t.now a end in
-        Listed room gs out.old result out.new }
-{
-    if end.goes {
-        return way(n, t, near, s, a, end, out);
+    // Whether row b can be the target of row a's end v.
+    #[tactic(auto, using(crate::proofs::RowLaws::targets), unfolding(moves::specs::Moves::target))]
+    pub fn is_target(&self, a: usize, v: usize, b: usize) -> bool
+        requires { (At self.now.n self.now.table.now a v) × (b < rows self.now.n) }
+        ensures { result ≡ target self.now.n self.now.table.now a v b }
+    {
+        if v < self.n {
+            return b == a;
+        }
+        let w = table::far(self.table, a, v);
+        b != a && self.leads(b, w, a)
     }
-    stays(n, t, near, s, a, end, out)
+
+    // At the inner node v, come by row e: the row that leads on to b, and the
+    // taxa beyond the other.
+    fn pace(&self, b: usize, v: usize, e: usize) -> Step
+        requires near { Near self.now.n self.now.table.now self.now.near.now }
+        requires at { let n = self.now.n in
+            (At n self.now.table.now e v) × (n ≤ v) × (b < rows n) }
+        ensures { Paced self.now.n self.now.table.now b v e result.on result.off }
+    {
+        let o = node_rows::others(self.near, e, v);
+        if self.leads(b, v, o.f) {
+            return Step {
+                on: o.f,
+                off: self.beyond(v, o.g),
+            };
+        }
+        Step {
+            on: o.g,
+            off: self.beyond(v, o.f),
+        }
+    }
+
+    // Lists the groups on the way from row a's end v to its target b.
+    #[tactic(auto, using(crate::proofs::WayLaws::turns))]
+    fn way(&self, a: usize, v: usize, b: usize, out: &mut Groups)
+        requires near { Near self.now.n self.now.table.now self.now.near.now }
+        requires at { let n = self.now.n in
+            let t = self.now.table.now in
+            (At n t a v) × (Aims n t a v b) × (out.old.items ≡ []) }
+        ensures { out.new.items ≡ groups_spec.groups self.now.n self.now.table.now a v b }
+    {
+        let mut w = v;
+        let mut e = a;
+        loop {
+            let p = self.pace(b, w, e);
+            out.push(p.off);
+            if p.on == b {
+                out.push(self.beyond(w, b));
+                return;
+            }
+            w = table::far(self.table, p.on, w);
+            e = p.on;
+        }
+    }
+
+    // Lists the groups of row a's end v where it stays.
+    fn stays(&self, a: usize, v: usize, out: &mut Groups)
+        requires near { Near self.now.n self.now.table.now self.now.near.now }
+        requires at { (At self.now.n self.now.table.now a v) × (out.old.items ≡ []) }
+        ensures { out.new.items ≡ groups_spec.stayed self.now.n self.now.table.now a v }
+    {
+        if v < self.n {
+            out.push(taxa::only(v));
+            return;
+        }
+        let o = node_rows::others(self.near, a, v);
+        out.push(self.beyond(v, o.f));
+        out.push(self.beyond(v, o.g));
+    }
+
+    // Lists the groups on the side of an end of row a.
+    #[tactic(auto, unfolding(moves::specs::Between::side_groups))]
+    pub fn groups(&self, a: usize, end: Side, out: &mut Groups)
+        requires near { Near self.now.n self.now.table.now self.now.near.now }
+        requires end { let n = self.now.n in
+            (a < rows n) × (SideRight n self.now.table.now a end) × (out.old.items ≡ []) }
+        ensures { out.new.items ≡ side_groups self.now.n self.now.table.now a end }
+    {
+        match end.target {
+            Some(b) => self.way(a, end.node, b, out),
+            None => self.stays(a, end.node, out),
+        }
+    }
 }

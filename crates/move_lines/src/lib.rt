@@ -1,64 +1,78 @@
 // The lines of one move, measured and written at the start of a lent output.
 #![tactic(auto)]
 
-ghost use Rattle.std.specs.Prelude.{◌*◌, ◌≤◌, ◌≡◌, length};
+ghost use Rattle.std.specs.Prelude.{◌+◌, ◌^◌, ◌<◌, ◌≤◌, ◌≡◌, length};
 ghost use Rattle.taxa.specs.Most.{most_partitions};
-ghost use Rattle.calls.specs.Between.{Wrote};
 ghost use Rattle.group_rule.specs.Zeros.{zeros};
-ghost use Rattle.move_lines.specs.MoveLines.{verdict_lines, lines_with};
+ghost use Rattle.move_lines.specs.MoveLines.{lines_with};
 
-// How many bytes the verdict lines of move m take, a line for each distance.
-fn verdicts_width(m: u64, ds: &[u64]) -> usize
-    requires { length ds.now ≤ most_partitions }
-    ensures { (result ≡ length (verdict_lines m 1 ds.now)) × (result ≤ 80 * most_partitions) }
-{
-    let mut w: usize = 0;
-    let mut i: usize = 0;
-    while i < ds.len() {
-        let k = lines::verdict_width(m, (i + 1) as u64, ds[i]);
-        w += k;
-        i += 1;
+use lines::{Count, Page, Sink};
+
+// What the lines of one move tell: its number, the distance of each partition,
+// how many partitions are saved, and how many of the distances are 0. They are
+// so few bytes that these can be counted.
+#[derive(Clone, Copy)]
+pub struct MoveLines<'a> {
+    number: u64,
+    distances: &'a [u64],
+    saved: usize,
+    same: usize,
+    ghost few: { length distances.now ≤ most_partitions },
+    ghost counted: { same ≡ zeros distances.now },
+    ghost short: { length (lines_with number distances.now saved) < 2 ^ 64 },
+}
+
+impl<'a> MoveLines<'a> {
+    ghost use Rattle.calls.specs.Between.{Wrote};
+    ghost use Rattle.lines.specs.Between.{Takes};
+    ghost use Rattle.move_lines.specs.Told.{told};
+
+    // The lines of a move with that number, where so many of the distances are
+    // 0 and so many partitions are saved.
+    #[tactic(auto, using(crate::proofs::LineLaws::lines_short))]
+    pub fn new(number: u64, distances: &'a [u64], saved: usize, same: usize) -> MoveLines<'a>
+        requires { (length distances.now ≤ most_partitions) × (same ≡ zeros distances.now) }
+        ensures { told result ≡ lines_with number distances.now saved }
+    {
+        MoveLines {
+            number,
+            distances,
+            saved,
+            same,
+        }
     }
-    w
-}
 
-// How many bytes the lines of move m take, with the number saved, where same
-// of the distances are 0.
-pub fn lines_width(m: u64, ds: &[u64], saved: usize, same: usize) -> usize
-    requires { let ds = ds.now in (length ds ≤ most_partitions) × (same ≡ zeros ds) }
-    ensures { result ≡ length (lines_with m ds.now saved) }
-{
-    let w = verdicts_width(m, ds);
-    let k = lines::saved_width(m, saved as u64, same as u64, ds.len() as u64);
-    w + k
-}
-
-// Writes the verdict lines of move m at the start of out; how many bytes.
-fn put_verdicts(m: u64, ds: &[u64], out: &mut [u8]) -> usize
-    requires { let ds = ds.now in
-        (length ds ≤ most_partitions) × (length (verdict_lines m 1 ds) ≤ length out.old) }
-    ensures { let ls = verdict_lines m 1 ds.now in
-        (Wrote length ls out.old result out.new) × (result ≤ 80 * most_partitions) }
-{
-    let mut e: usize = 0;
-    let mut i: usize = 0;
-    while i < ds.len() {
-        let k = lines::verdict_line(m, (i + 1) as u64, ds[i], &mut out[e..]);
-        e += k;
-        i += 1;
+    // The lines, for what takes them: a line for each distance, then the saved
+    // line.
+    fn tell<S: Sink>(&self, out: &mut S)
+        requires { length (told self.now) ≤ S.room out.old }
+        ensures { Takes S.room S.took out.old (told self.now) out.new }
+    {
+        for (i, d) in self.distances.iter().enumerate() {
+            lines::verdict_line(self.number, i as u64 + 1, *d, out);
+        }
+        let (saved, same) = (self.saved as u64, self.same as u64);
+        let partitions = self.distances.len() as u64;
+        lines::saved_line(self.number, saved, same, partitions, out);
     }
-    e
-}
 
-// Writes the lines of move m at the start of out; how many bytes.
-pub fn put_lines(m: u64, ds: &[u64], saved: usize, same: usize, out: &mut [u8]) -> usize
-    requires { let ds = ds.now in
-        (length ds ≤ most_partitions) × (same ≡ zeros ds)
-        × (length (lines_with m ds saved) ≤ length out.old) }
-    ensures { let ls = lines_with m ds.now saved in
-        Wrote length ls out.old result out.new }
-{
-    let e = put_verdicts(m, ds, out);
-    let k = lines::saved_line(m, saved as u64, same as u64, ds.len() as u64, &mut out[e..]);
-    e + k
+    // How many bytes they take.
+    pub fn width(&self) -> usize
+        ensures { result ≡ length (told self.now) }
+    {
+        let mut count = Count(0);
+        self.tell(&mut count);
+        count.0
+    }
+
+    // Writes them at the start of out; how many bytes.
+    #[tactic(auto, using(lines::proofs::Placing::starts))]
+    pub fn write(&self, out: &mut [u8]) -> usize
+        requires { length (told self.now) ≤ length out.old }
+        ensures { Wrote length (told self.now) out.old result out.new }
+    {
+        let mut page = Page { out, at: 0 };
+        self.tell(&mut page);
+        page.at
+    }
 }

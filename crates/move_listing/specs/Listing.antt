@@ -1,14 +1,13 @@
 -- What the call that writes one move's lines says and promises.
-use Rattle.std.specs.Prelude.{ℕ, ◌+◌, List, ◌++◌, length}
-use Rattle.calls.specs.Calls.{Said, gives, refuses, judged, Call, tells}
+use Rattle.std.specs.Prelude.{ℕ, ◌+◌, List, ◌++◌, length, Result}
+use Rattle.calls.specs.declared.Refusal.{Refusal}
+use Rattle.calls.specs.Calls.{Said, judged, Call, tells, says}
 use Rattle.tree.specs.Editions.{Edition, narrow}
 use Rattle.tree.specs.Splits.{distances}
 use Rattle.tree.specs.Refusals.{tree_checks_of, partitions_checks, room_checks}
 use Rattle.moves.specs.Moves.{Move, moved, move_checks}
 use Rattle.lines.specs.Lines.{placed}
 use Rattle.move_lines.specs.MoveLines.{move_lines}
-use Rattle.move_listing.specs.declared.Lines.{Lines}
-use Rattle.move_listing.specs.declared.Lines.TheVariants.{To, Refused}
 
 -- The lines that a call states the number k for.
 abbrev pub lines_of : ℕ → List ℕ → List ℕ → Move → ℕ → List ℕ
@@ -25,11 +24,6 @@ lines_said_of E n b ys m k room place =
 
 abbrev pub lines_said : ℕ → List ℕ → List ℕ → Move → ℕ → ℕ → ℕ → Said (List ℕ)
 lines_said = lines_said_of narrow
-
--- What each answer says.
-abbrev pub lines_says : Lines → Said ℕ
-lines_says (To e) = gives e
-lines_says (Refused r) = refuses r
 
 -- What is lent: a table and an output.
 pub record Page : Type 0 where
@@ -48,7 +42,8 @@ abbrev pub moved_with : ℕ → Move → ℕ → List ℕ → Page → Page
 moved_with n m place ls p = page (moved n p.table m) (placed p.out place ls)
 
 -- The promise: the first is told, and the second is what was lent.
-abbrev pub Lists : ℕ → List ℕ → Move → ℕ → ℕ → Page → Lines → Page → Type 0
+abbrev pub Lists : ℕ → List ℕ → Move → ℕ → ℕ → Page → Result ℕ Refusal → Page
+    → Type 0
 Lists n ys m k place p r p' =
     let said = lines_said n p.table ys m k (length p.out) place in
-    Call (tells (place_after place)) (moved_with n m place) said p (lines_says r) p'
+    Call (tells (place_after place)) (moved_with n m place) said p (says r) p'

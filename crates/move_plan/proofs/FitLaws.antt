@@ -1,13 +1,18 @@
 -- What the tests of the code tell of the rows of a move. Assumes nothing.
-use mathlib.Core.Path.{◌≡◌}
-use mathlib.Core.Bool.{true, ◌||◌}
+use mathlib.Core.Path.{◌≡◌, refl, sym, ap, ◌∙◌}
+use mathlib.Core.Bool.{Bool, true, false, not, ◌&&◌, ◌||◌, true≢false, false≢true}
 use mathlib.Core.List.{List, [], ◌∷◌}
 use Prim.Native.Nat.{ℕ, ◌*◌, ◌-◌, ◌≤◌, ◌<◌}
 use native.Mathlib.Omega.{arith}
 use lib.Dec.{leb}
 use borrow.Author.Tests.{ne_eqb, le-leb, leb-true}
+use Rattle.std.specs.Prelude.{is_some}
+use Rattle.std.specs.Bool.{then_some}
+use Rattle.std.specs.List.{list_all}
+use Rattle.moves.specs.Between.{to_go}
+use Rattle.moves.specs.declared.Side.{Side}
 use Rattle.taxa.proofs.Bools.{and_left, and_right}
-use Rattle.tree.specs.Tree.{lo, hi, rows, Valid}
+use Rattle.tree.specs.Tree.{lo, hi, rows, touches, Valid}
 use Rattle.tree.specs.Refusals.{Accepted, each}
 use Rattle.tree.proofs.Joins.{lo-touch, hi-touch}
 use Rattle.sides.specs.Between.{At}
@@ -25,10 +30,20 @@ three-rows {n} a b c big h =
     let lc = leb-true c top (and_left _ _ (and_right (leb b top) _ bc)) in
     omega arith
 
--- An SPR has two, its third number being 0.
-pub two-rows : (n a b : ℕ) → all_rows n (a ∷ b ∷ 0 ∷ []) ≡ all_rows n (a ∷ b ∷ [])
+-- An SPR has two.
+pub two-rows : {n : ℕ} (a b : ℕ) → 4 ≤ n → all_rows n (a ∷ b ∷ []) ≡ true → (a < rows n) × (b < rows n)
 unfolding each
-two-rows n a b = let z : leb 0 (2 * n - 4) ≡ true = le-leb 0 (2 * n - 4) (omega arith) in rw z
+two-rows {n} a b big h =
+    let top = 2 * n - 4 in
+    let la = leb-true a top (and_left _ _ h) in
+    let lb = leb-true b top (and_left _ _ (and_right (leb a top) _ h)) in
+    omega arith
+
+-- `each` is std's `list_all`
+pub all-each : (p : ℕ → Bool) (xs : List ℕ) → list_all p xs ≡ each p xs
+unfolding each
+all-each p [] = refl
+all-each p (x ∷ xs) = ap (λ (b : Bool). p x && b) (all-each p xs)
 
 -- ---- the rows of an NNI: with e inner, and neither x nor y, their ends tell
 pub either_way : {n : ℕ} {t : List ℕ} {e x y : ℕ} → Valid n t → e < rows n → n ≤ lo t e
@@ -45,3 +60,18 @@ lo_end {t = t} {a = a} good l e = record { good = good; row = l; touch = rw e (l
 
 pub hi_end : {n : ℕ} {t : List ℕ} {a v : ℕ} → Accepted n t → a < rows n → v ≡ hi t a → At n t a v
 hi_end {t = t} {a = a} good l e = record { good = good; row = l; touch = rw e (hi-touch t a) }
+
+-- ---- an end that is put onto row b, unless b touches it, stays where it has no
+-- target
+pub stays-there : (t : List ℕ) (v b : ℕ) {s : Side} {none : Bool} → s ≡ to_go t v b
+    → is_some s.target ≡ not none → touches t b v ≡ none
+stays-there t v b {s} {none} h e = go (touches t b v) none (sym (ap (λ (w : Side). is_some w.target) h) ∙ e)
+  where
+    go : (p q : Bool) → is_some (then_some (not p) b) ≡ not q → p ≡ q
+    go true true w = refl
+    go true false w = absurd (false≢true w)
+    go false true w = absurd (true≢false w)
+    go false false w = refl
+
+-- what the check is to use
+pub ruleset fit_laws = (three-rows, two-rows, stays-there)

@@ -1,26 +1,20 @@
 -- What only stands between the functions: what the test of a move's bytes
 -- says, by the kind.
-use Rattle.std.specs.Prelude.{ℕ, true, not, List, [], ◌∷◌, eqb}
+use Rattle.std.specs.Prelude.{ℕ, true, not, List, [], ◌∷◌, eqb, Result, Ok, Err}
 use Rattle.calls.specs.declared.Refusal.{Refusal}
-use Rattle.calls.specs.Calls.{Check, ◌else◌, Said, gives, refuses, judged}
+use Rattle.calls.specs.Calls.{Check, ◌else◌, Said, judged}
+use Rattle.taxa.specs.Sets.{pick}
 use Rattle.tree.specs.Tree.{lo, hi, touches}
 use Rattle.moves.specs.Moves as moves
 use Rattle.moves.specs.Moves.{nni_fits, end_with, targets, at_both, all_rows, move_checks}
 use Rattle.moves.specs.Between.{nni_plan, spr_plan, tbr_plan, plan_of}
 use Rattle.moves.specs.declared.Plan.{Plan}
-use Rattle.move_plan.specs.declared.Fitted.{Fitted}
-use Rattle.move_plan.specs.declared.Fitted.TheVariants as fitted
-use Rattle.move_plan.specs.declared.Entry.{Entry}
-use Rattle.move_plan.specs.declared.Entry.TheVariants as entry
+use Rattle.move_plan.specs.declared.Kind.{Kind}
 
--- What each answer of a test says.
-abbrev pub fitted_says : Fitted → Said (Unit {0})
-fitted_says fitted.Fits = gives tt
-fitted_says (fitted.Refused r) = refuses r
-
-abbrev pub entry_says : Entry → Said Plan
-entry_says (entry.Opens p) = gives p
-entry_says (entry.Refused r) = refuses r
+-- The kind with this number.
+abbrev pub kind_of : ℕ → Result Kind Refusal
+kind_of k =
+    pick (eqb k 1) (Ok Kind.Nni) (pick (eqb k 2) (Ok Kind.Spr) (pick (eqb k 3) (Ok Kind.Tbr) (Err Refusal.Kind)))
 
 -- What the checks 7 to 10 say: the plan of the move.
 abbrev pub plan_said : ℕ → List ℕ → moves.Move → Said Plan

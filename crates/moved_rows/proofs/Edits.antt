@@ -1,34 +1,16 @@
--- A row that is stored is the definitions' row; the ends in a table of bytes
--- are bytes. Assumes nothing.
+-- The ends in a table of bytes are bytes. Assumes nothing.
 use mathlib.Core.Path.{◌≡◌}
 use mathlib.Core.Bool.{Bool, true, false}
 use mathlib.Core.List.{List}
-use Prim.Native.Nat.{ℕ, ◌+◌, ◌*◌, ◌≤◌, ◌<◌, min, max}
+use Prim.Native.Nat.{ℕ, ◌+◌, ◌*◌, ◌<◌}
 use native.Mathlib.Omega.{arith}
 use lib.Dec.{eqb}
-use lib.ListN.{get_or, set}
+use lib.ListN.{get_or}
 use mir.Syntax.{w8}
 use mir.Val.{Fits}
 use Rattle.taxa.specs.Sets.{pick}
 use Rattle.tree.specs.Tree.{lo, touches, far}
-use Rattle.moves.specs.Moves.{put, end_on}
-
--- ---- a row stored
-pub put_up : (t : List ℕ) (r : ℕ) {u v : ℕ} → u < v
-    → set (set t (2 * r) u) (2 * r + 1) v ≡ put t r u v
-unfolding put
-put_up t r {u} {v} h =
-    let a : min u v ≡ u = omega arith in
-    let b : max u v ≡ v = omega arith in
-    rw (a, b)
-
-pub put-down : (t : List ℕ) (r : ℕ) {u v : ℕ} → v ≤ u
-    → set (set t (2 * r) v) (2 * r + 1) u ≡ put t r u v
-unfolding put
-put-down t r {u} {v} h =
-    let a : min u v ≡ v = omega arith in
-    let b : max u v ≡ u = omega arith in
-    rw (a, b)
+use Rattle.moves.specs.Moves.{end_on}
 
 -- ---- the ends in a table of bytes are bytes
 module _ (t : List ℕ) (bytes : (i : ℕ) → Fits w8 (get_or t i 0)) where

@@ -1,11 +1,10 @@
 -- A plan asks each end that goes for what it has. Assumes nothing.
 use mathlib.Core.Path.{◌≡◌, refl, sym, ap₂, ◌∙◌, subst}
-use mathlib.Core.Bool.{Bool, true, false}
+use mathlib.Core.Bool.{true}
 use mathlib.Core.List.{List, [], ◌∷◌}
 use Prim.Native.Nat.{ℕ, ◌≤◌, ◌<◌}
 use native.Mathlib.Omega.{arith}
 use Rattle.taxa.specs.Most.{most}
-use Rattle.taxa.specs.Sets.{pick}
 use Rattle.taxa.proofs.Bools.{not_both}
 use Rattle.tree.specs.Tree.{rows, nodes, touches, far, Valid}
 use Rattle.tree.proofs.RefusalLaws.{valid_accepted}
@@ -14,7 +13,8 @@ use Rattle.tree.proofs.RowCounts.{Pair, pair_of}
 use Rattle.node_rows.specs.Between.{Near, OtherTwo}
 use Rattle.node_rows.proofs.NearLaws.{near-others}
 use Rattle.moves.specs.Moves.{move_end}
-use Rattle.moves.specs.Between.{SideRight, side_moved}
+use Rattle.std.specs.Prelude.{Option, Some, None}
+use Rattle.moves.specs.Between.{Aims, SideRight, end_moved, side_moved}
 use Rattle.moves.specs.declared.Side.{Side}
 use Rattle.moves.specs.declared.Plan.{Plan}
 use Rattle.moves.proofs.Spr.Rows.{EndFits}
@@ -29,8 +29,8 @@ module _ {n : ℕ} {t near : List ℕ} {p a b : ℕ} (k : EndMoves n t near p a 
   pub p_lt : p < nodes most
   p_lt = omega (arith, touch-node a k.good.valid k.a_lt p k.a_p, k.good.few)
 
-  pub two-rows : {f g : ℕ} → OtherTwo a near p f g → Pair n t a p f g
-  two-rows {f} {g} o =
+  pub two_rows : {f g : ℕ} → OtherTwo a near p f g → Pair n t a p f g
+  two_rows {f} {g} o =
       pair_of a p f g k.good.valid k.a_lt k.a_p k.inner
       (touch-node a k.good.valid k.a_lt p k.a_p)
       (k.two ∙ sym (ap₂ (λ (x y : ℕ). x ∷ y ∷ []) o.first o.second))
@@ -62,12 +62,12 @@ kept-moves {q = q} {a = a} k e m = record {
 }
 
 -- ---- an end of row a that goes fits
-side_end : {n : ℕ} {t : List ℕ} {a : ℕ} {s : Side} → Valid n t → a < rows n → SideRight n t a s
-    → s.goes ≡ true
-    → EndFits n t s.node a s.target
-side_end {n} {t} {a} {s} vt lt r g =
-    side-fits (record { valid = vt; a_lt = lt; b_lt = r.row; a_v = r.touch; fits = (r.aim g).0 })
-    (λ w. not_both (touches t s.target s.node) w (r.aim g).1)
+side_end : {n : ℕ} {t : List ℕ} {a v b : ℕ} → Valid n t → a < rows n → touches t a v ≡ true
+    → Aims n t a v b
+    → EndFits n t v a b
+side_end {n} {t} {a} {v} {b} vt lt touch aim =
+    side-fits (record { valid = vt; a_lt = lt; b_lt = aim.row; a_v = touch; fits = aim.fits })
+    (λ w. not_both (touches t b v) w aim.apart)
 
 -- ---- the two ends of a plan
 module _ {n : ℕ} {t near : List ℕ} {p : Plan} (k : Rewrites n t near p) where
@@ -78,7 +78,7 @@ module _ {n : ℕ} {t near : List ℕ} {p : Plan} (k : Rewrites n t near p) wher
   rights = plan-right vt k.plan
 
   at_end : {s : Side} → SideRight n t p.row s → SideMoves n t near p.row s
-  at_end r g = fits_moves k.good.few (side_end vt rights.row r g) k.holds
+  at_end r b e = fits_moves k.good.few (side_end vt rights.row r.touch (r.aim b e)) k.holds
 
   pub first-moves : SideMoves n t near p.row p.first
   first-moves = at_end rights.first
@@ -88,12 +88,11 @@ module _ {n : ℕ} {t near : List ℕ} {p : Plan} (k : Rewrites n t near p) wher
       → SideMoves n t₁ near p.row p.second
   second-moves e =
       subst (λ (u : List ℕ). SideMoves n u near p.row p.second) (sym e)
-      (go p.first.goes refl)
+      (go p.first.target refl)
     where
-      go : (b : Bool) → p.first.goes ≡ b
-          → SideMoves n (pick b (move_end n t p.first.node p.row p.first.target) t) near
-          p.row p.second
-      go true h g =
-          kept-moves (side_end vt rights.row rights.first h) rights.ends
-          (at_end rights.second g)
-      go false h g = at_end rights.second g
+      go : (b : Option ℕ) → p.first.target ≡ b
+          → SideMoves n (end_moved n t p.row p.first.node b) near p.row p.second
+      go (Some b) h = λ c w.
+          kept-moves (side_end vt rights.row rights.first.touch (rights.first.aim b h)) rights.ends
+          (at_end rights.second c w)
+      go None h = at_end rights.second

@@ -1,6 +1,6 @@
 -- What only stands between the functions: what each edit of a table asks
 -- for.
-use Rattle.std.specs.Prelude.{ℕ, ◌*◌, ◌≤◌, ◌<◌, ◌≡◌, true, List, [], ◌∷◌, length}
+use Rattle.std.specs.Prelude.{ℕ, ◌*◌, ◌≤◌, ◌<◌, ◌≡◌, true, List, [], ◌∷◌, length, Some}
 use Rattle.taxa.specs.Most.{most}
 use Rattle.tree.specs.Tree.{rows, nodes, touches, others}
 use Rattle.tree.specs.Refusals.{Accepted}
@@ -23,7 +23,7 @@ pub record EndMoves (n : ℕ) (t near : List ℕ) (p a b : ℕ) : Type 0 where
 -- the same of an end of row a, where it goes to its target
 abbrev pub SideMoves : ℕ → List ℕ → List ℕ → ℕ → Side → Type 0
 SideMoves n t near a s =
-    s.goes ≡ true → EndMoves n t near s.node a s.target
+    (b : ℕ) → s.target ≡ Some b → EndMoves n t near s.node a b
 
 -- a tree, the rows at each node, and the plan of a move
 pub record Rewrites (n : ℕ) (t near : List ℕ) (p : Plan) : Type 0 where

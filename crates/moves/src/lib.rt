@@ -2,21 +2,20 @@
 // only code is the two structs in which what was found of a move goes on.
 #![tactic(auto)]
 
-// An end of the row that a move is about: its node, the row that is named for
-// it, and whether it goes there.
+// An end of the row that a move is about: its node, and the row that it is put
+// onto, if it does not stay.
 #[derive(Clone, Copy)]
 pub struct Side {
     pub node: usize,
-    pub target: usize,
-    pub goes: bool,
+    pub target: Option<usize>,
 }
 
-// What was found of a move that fits: whether it is an NNI, its row, and the
-// two ends of the row.
+// What was found of a move that fits: its row, the two ends of the row, and of
+// an NNI the two rows that are exchanged.
 #[derive(Clone, Copy)]
 pub struct Plan {
-    pub nni: bool,
     pub row: usize,
     pub first: Side,
     pub second: Side,
+    pub exchanged: Option<(usize, usize)>,
 }

@@ -1,5 +1,5 @@
 -- The first line of the input, and what stands before the table in a job.
-use Rattle.std.specs.Prelude.{ℕ, ◌*◌, ◌<◌, ◌≡◌, ◌⊎◌, List, [], ◌∷◌}
+use Rattle.std.specs.Prelude.{ℕ, ◌*◌, ◌<◌, ◌≡◌, List, [], ◌∷◌, Option, Some, None}
 use Rattle.tree.specs.Tree.{rows}
 use Rattle.lines.specs.Lines.{decimal}
 
@@ -9,10 +9,10 @@ pub record Number (line : List ℕ) (k : ℕ) : Type 0 where
   pub few : k < 100
   pub is : line ≡ decimal k
 
--- The number that a line is, or 0 where it is none of them.
-abbrev pub LineSays : List ℕ → ℕ → Type 0
-LineSays line k =
-    Number line k ⊎ ((k ≡ 0) × ((m : ℕ) → Number line m → ⊥))
+-- The number that a line is, or none.
+abbrev pub LineSays : List ℕ → Option ℕ → Type 0
+LineSays line (Some k) = Number line k
+LineSays line None = (m : ℕ) → Number line m → ⊥
 
 -- Field 1: its tag, its length 1 and n. Then the tag of field 2 and its
 -- length, of which the high byte is 0.

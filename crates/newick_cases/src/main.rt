@@ -6,48 +6,30 @@
 mod apart;
 mod texts;
 
-use case_lines::{head, word};
-use case_lists::given;
+use case_lines::Case;
+use case_lists::bytes;
+use std::io;
 
 // The most bytes of a text that a case can have.
 const LONG: usize = 512;
 
 // Runs a case on its text and its second list of bytes, if it has one.
-fn on_text(rt: &impl Print, l: &[u8], text: &[u8], other: &[u8]) {
-    match head(l) {
-        b'a' => texts::accept(rt, l, text),
-        b'r' => texts::refuse(rt, l, text),
-        b'l' => texts::lend(rt, l, text),
-        b'c' => texts::cuts(rt, l, text),
-        b't' => apart::table(rt, l, text, other),
-        b'b' => apart::beside(rt, l, text, other),
+fn on_text(rt: &impl Print, case: Case<'_>) -> io::Result<()> {
+    let text = bytes::<LONG>(case, 2);
+    let other = bytes::<LONG>(case, 3);
+    // Kept: the letter stands in the cases; an enum would name each once more for one match.
+    match case.head() {
+        Some(b'a') => texts::accept(rt, case, &text),
+        Some(b'r') => texts::refuse(rt, case, &text),
+        Some(b'l') => texts::lend(rt, case, &text),
+        Some(b'c') => texts::cuts(rt, case, &text),
+        Some(b't') => apart::table(rt, case, &text, &other),
+        Some(b'b') => apart::beside(rt, case, &text, &other),
         _ => case_prints::line(rt, b"no such case"),
-    }
-}
-
-// Runs the case in a line.
-fn case(rt: &impl Print, input: &[u8], l: &[u8]) {
-    let mut s = [0u8; LONG];
-    let mut u = [0u8; LONG];
-    let text = given(input, word(l, 2), &mut s);
-    on_text(rt, l, text, given(input, word(l, 3), &mut u));
-}
-
-// Runs the cases in their order.
-fn run(rt: &impl Print, input: &[u8]) {
-    let m = case_lines::lines(input);
-    let mut k: usize = 0;
-    while k < m {
-        let l = case_lines::line(input, k);
-        if case_lines::is_case(l) {
-            case(rt, input, l);
-        }
-        k += 1;
     }
 }
 
 // Reads the cases and runs them.
 fn main(rt: HostRuntime) {
-    let mut input = [0u8; whole_input::ROOM];
-    run(&rt, case_lines::read(&mut rt.stdin(), &mut input));
+    case_lines::run(&mut rt.stdin(), |case| on_text(&rt, case));
 }

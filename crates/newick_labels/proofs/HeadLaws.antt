@@ -1,94 +1,56 @@
--- The digit at a place at each test of the code, and the taxa that begin with
--- a digit. Assumes nothing.
+-- The byte of a digit at a place, and the taxa that begin with a digit. Assumes
+-- nothing.
+use Rattle.std.specs.Prelude.{Some, None, if◌then◌else◌, ◌-◌, ◌||◌, not}
+use Rattle.std.proofs.lemmas.Option.{gets}
+use Rattle.std.proofs.lemmas.Bool.Decides.{nat_tests}
 use mathlib.Core.Path.{◌≡◌, refl, sym, ap, ◌∙◌}
 use mathlib.Core.Logic.{◌⊎◌, inl, inr}
 use mathlib.Core.Bool.{Bool, true, false, true≢false, ◌&&◌}
 use mathlib.Core.List.{List}
-use Prim.Native.Nat.{ℕ, ◌+◌, ◌*◌, ◌-◌, ◌/◌, ◌%◌, ◌^◌, ◌≤◌, ◌<◌}
+use Prim.Native.Nat.{ℕ, ◌+◌, ◌*◌, ◌/◌, ◌%◌, ◌^◌, ◌≤◌, ◌<◌}
 use native.Mathlib.Nat.{mod-lt, div-eq_of_lt, lt_of_lt_of_le, div-div-eq-div-mul}
 use native.Mathlib.Omega.{arith}
-use lib.Dec.{eqb, ltb, leb}
+use lib.Dec.{eqb, ltb}
 use lib.ListN.{length, get_or, drop, drop_of_length-le}
 use lib.Pow.{pow_pos, pow_mono, pow-add}
 use lib.Seq.{drop-cons}
-use borrow.Author.Tests.{lt-ltb, le-ltb, ltb-true, le-leb, lt-leb, leb-true, ltb-false}
+use borrow.Author.Tests.{lt-ltb, ltb-true, ltb-false}
 use Rattle.taxa.specs.Most.{most}
 use Rattle.taxa.specs.Sets.{has, some, lowest}
-use Rattle.taxa.proofs.Bools.{either, and_left, and_right, and_false_r, and_both, or_left, or_cases}
+use Rattle.taxa.proofs.Bools.{either, and_left, and_right, and_both, or_cases}
 use Rattle.taxa.proofs.Bools.{or_neither}
-use Rattle.taxa.proofs.Sets.{has_below, has_mod, some_zero, some-has, some-lowest}
-use Rattle.newick_labels.specs.Between.{digit, Stop, digit_at, value_at, seconds, begun}
+use Rattle.taxa.proofs.Sets.{has_below, has_mod, some-has, some-lowest}
+use Rattle.newick_labels.specs.Between.{Stop, stands, digit_at, seconds, begun}
 
 -- ---- the digit at a place
+pub digit_is : (s : List ℕ) (at : ℕ)
+    → digit_at s at ≡ (if stands s at then Some (get_or s at 0 - 48) else None)
+unfolding digit_at
+digit_is s at = refl
+
+-- what the code reads
+pub ruleset digits = (digit_is, gets)
+
 module _ (s : List ℕ) (at : ℕ) where
-  none-there : digit_at s at ≡ false → 10 ≡ value_at s at
-  unfolding value_at
-  none-there e = rw e
+  -- back from the digit to the byte
+  pub digit_byte : (a : ℕ) → digit_at s at ≡ Some a
+      → (at < length s) × (get_or s at 0 ≡ 48 + a) × (a < 10)
+  unfolding digit_at
+  digit_byte a e = grind (arith, nat_tests)
 
-  one_there : digit_at s at ≡ true → value_at s at ≡ get_or s at 0 - 48
-  unfolding value_at
-  one_there e = rw e
+  -- and from the byte to the digit
+  pub byte_digit : (a : ℕ) → at < length s → get_or s at 0 ≡ 48 + a → a < 10
+      → digit_at s at ≡ Some a
+  unfolding digit_at
+  byte_digit a l e h = grind (arith, nat_tests)
 
-  pub past_end : length s ≤ at → 10 ≡ value_at s at
-  past_end h =
-      none-there (ap (λ (p : Bool). p && digit (get_or s at 0)) (le-ltb at (length s) h))
-
-  pub below_digits : get_or s at 0 < 48 → 10 ≡ value_at s at
-  below_digits h =
-      none-there (ap (λ (p : Bool). ltb at (length s) && (p && leb (get_or s at 0) 57))
-      (lt-leb 48 (get_or s at 0) h)
-      ∙ and_false_r (ltb at (length s)))
-
-  pub above_digits : 57 < get_or s at 0 → 10 ≡ value_at s at
-  above_digits h =
-      none-there (ap (λ (p : Bool). ltb at (length s) && (leb 48 (get_or s at 0) && p))
-      (lt-leb (get_or s at 0) 57 h)
-      ∙ ap (λ (p : Bool). ltb at (length s) && p) (and_false_r (leb 48 (get_or s at 0)))
-      ∙ and_false_r (ltb at (length s)))
-
-  pub among_digits : at < length s → 48 ≤ get_or s at 0 → get_or s at 0 ≤ 57
-      → get_or s at 0 - 48 ≡ value_at s at
-  among_digits h l k =
-      sym (one_there (and_both (ltb at (length s)) (digit (get_or s at 0)) (lt-ltb at (length s) h)
-      (and_both (leb 48 (get_or s at 0)) (leb (get_or s at 0) 57) (le-leb 48 (get_or s at 0) l)
-      (le-leb (get_or s at 0) 57 k))))
-
-  -- back from the number to the byte
-  pub value_byte : value_at s at < 10
-      → (at < length s) × (get_or s at 0 ≡ 48 + value_at s at)
-  value_byte h = go (either (digit_at s at))
+  pub no_digit : digit_at s at ≡ None → Stop (drop at s)
+  unfolding digit_at Stop
+  no_digit e = go (either (ltb at (length s)))
     where
-      go : (digit_at s at ≡ true) ⊎ (digit_at s at ≡ false)
-          → (at < length s) × (get_or s at 0 ≡ 48 + value_at s at)
-      go (inl e) =
-          let d = and_right (ltb at (length s)) (digit (get_or s at 0)) e in
-          let l : 48 ≤ get_or s at 0 =
-          leb-true 48 (get_or s at 0)
-          (and_left (leb 48 (get_or s at 0)) (leb (get_or s at 0) 57) d) in (
-            ltb-true at (length s) (and_left (ltb at (length s)) (digit (get_or s at 0)) e),
-            omega (arith, one_there e, l),
-          )
-      go (inr e) = absurd (omega (arith, none-there e, h))
-
-  pub value_stop : 9 < value_at s at → Stop (drop at s)
-  unfolding Stop
-  value_stop h = go (either (ltb at (length s)))
-    where
-      byte : ltb at (length s) ≡ true
-          → (digit (get_or s at 0) ≡ true) ⊎ (digit (get_or s at 0) ≡ false)
-          → digit (get_or s at 0) ≡ false
-      byte l (inr e) = e
-      byte l (inl e) =
-          let q = and_both (ltb at (length s)) (digit (get_or s at 0)) l e in
-          let k : get_or s at 0 ≤ 57 =
-          leb-true (get_or s at 0) 57
-          (and_right (leb 48 (get_or s at 0)) (leb (get_or s at 0) 57) e) in
-          absurd (omega (arith, one_there q, h, k))
-
       go : (ltb at (length s) ≡ true) ⊎ (ltb at (length s) ≡ false)
           → Stop (drop at s)
-      go (inl l) =
-          rw (drop-cons s at 0 (ltb-true at (length s) l)) (byte l (either (digit (get_or s at 0))))
+      go (inl l) = rw (drop-cons s at 0 (ltb-true at (length s) l)) (grind (arith, nat_tests))
       go (inr l) = rw (drop_of_length-le s (ltb-false at (length s) l)) tt
 
 -- ---- no taxon is the most or above
@@ -112,36 +74,25 @@ has-seconds u a i =
     has_mod 10 (u / 2 ^ (10 * a)) i
     ∙ ap (λ (p : Bool). ltb i 10 && p) (has_shift u (10 * a) i)
 
+-- no taxon has a first digit above 6 and a second one
+pub no_seconds : (u a : ℕ) → u < 2 ^ most → 6 < a → seconds u a ≡ 0
+no_seconds u a l k =
+    ap (λ (x : ℕ). x % 2 ^ 10)
+    (div-eq_of_lt (lt_of_lt_of_le l (pow_mono {i = most} (omega arith))))
+
+pub begun_is : (u a : ℕ) → begun u a ≡ (has u a || (ltb 0 a && not (eqb (seconds u a) 0)))
+unfolding begun some
+begun_is u a = refl
+
+-- what the code tests
+pub ruleset heads = (begun_is, no_seconds, nat_tests)
+
 -- d begins with the digit a
 pub data Begins (a d : ℕ) : Type 0 where
   alone : d ≡ a → Begins a d
   with_second : 0 < a → (i : ℕ) → i < 10 → d ≡ 10 * a + i → Begins a d
 
 module _ (u a : ℕ) where
-  pub begun_alone : has u a ≡ true → true ≡ begun u a
-  unfolding begun
-  begun_alone h = sym (or_left (has u a) (ltb 0 a && some (seconds u a)) h)
-
-  begun_more : has u a ≡ false → begun u a ≡ (ltb 0 a && some (seconds u a))
-  unfolding begun
-  begun_more h = rw h
-
-  pub begun_zero : has u a ≡ false → a < 1 → false ≡ begun u a
-  begun_zero h e =
-      sym (begun_more h ∙ ap (λ (p : Bool). p && some (seconds u a)) (le-ltb 0 a (omega arith)))
-
-  pub begun_high : u < 2 ^ most → has u a ≡ false → 6 < a → false ≡ begun u a
-  begun_high l h k =
-      let z : u / 2 ^ (10 * a) ≡ 0 =
-      div-eq_of_lt (lt_of_lt_of_le l (pow_mono {i = most} (omega arith))) in
-      sym (begun_more h
-      ∙ ap (λ (p : Bool). ltb 0 a && p) (ap some (ap (λ (x : ℕ). x % 2 ^ 10) z) ∙ some_zero)
-      ∙ and_false_r (ltb 0 a))
-
-  pub begun-seconds : has u a ≡ false → 0 < a → some (seconds u a) ≡ begun u a
-  begun-seconds h n =
-      sym (begun_more h ∙ ap (λ (p : Bool). p && some (seconds u a)) (lt-ltb 0 a n))
-
   -- what the test means
   pub begun-some : begun u a ≡ true → (d : ℕ) × (has u d ≡ true) × Begins a d
   unfolding begun

@@ -1,9 +1,10 @@
 -- What is found or missed at each answer of the code. Assumes nothing.
+use Rattle.std.specs.Prelude.{Some, None}
 use mathlib.Core.Path.{◌≡◌, refl, sym, ap, ◌∙◌}
 use mathlib.Core.Logic.{◌⊎◌, inl, inr}
 use mathlib.Core.Bool.{true, false, true≢false}
-use mathlib.Core.List.{List, [], ◌∷◌, ◌++◌, append-nil}
-use Prim.Native.Nat.{ℕ, suc, ◌+◌, ◌*◌, ◌/◌, ◌%◌, ◌^◌, ◌<◌}
+use mathlib.Core.List.{List, [], ◌∷◌, ◌++◌, append-nil, cons-ne-nil}
+use Prim.Native.Nat.{ℕ, suc, ◌+◌, ◌*◌, ◌/◌, ◌%◌, ◌^◌, ◌≤◌, ◌<◌}
 use native.Mathlib.Numerals.{add-one}
 use native.Mathlib.Omega.{arith}
 use lib.Dec.{ltb}
@@ -15,26 +16,23 @@ use Rattle.taxa.specs.Sets.{has}
 use Rattle.taxa.proofs.Bools.{either}
 use Rattle.taxa.proofs.Sets.{has_below}
 use Rattle.lines.specs.Lines.{decimal}
-use Rattle.newick_labels.specs.Between.{Stop, Ends, Found, Missed, value_at, begun}
-use Rattle.newick_labels.proofs.HeadLaws.{value_byte, value_stop, Begins, alone, with_second}
+use Rattle.newick_labels.specs.Between.{Stop, Ends, Found, Missed, digit_at, begun}
+use Rattle.newick_labels.proofs.HeadLaws.{digit_byte, no_digit, Begins, alone, with_second}
 use Rattle.newick_labels.proofs.HeadLaws.{begun-some, begun-none}
 use Rattle.newick_labels.proofs.TextLaws.{step, cancel, one_digit, two_digits, digit_goes_on}
 use Rattle.newick_labels.proofs.TextLaws.{Spelt}
 use Rattle.newick_labels.proofs.TextLaws.{single, double, spelt}
 
--- the digit a stands at a place inside the text, and u is a set of taxa
+-- the digit a stands at a place, and u is a set of taxa
 pub record Digit (s : List ℕ) (at u a : ℕ) : Type 0 where
   pub small : u < 2 ^ most
-  pub here : at < length s
-  pub is : a ≡ value_at s at
-  pub low : a < 10
+  pub is : digit_at s at ≡ Some a
 
 -- the digit c follows it, and it is no leading zero
 pub record Digits (s : List ℕ) (at u a c : ℕ) : Type 0 where
   pub first : Digit s at u a
   pub more : 0 < a
-  pub is : c ≡ value_at s (at + 1)
-  pub low : c < 10
+  pub is : digit_at s (at + 1) ≡ Some c
 
 module _ (s : List ℕ) (at u : ℕ) where
   -- a label of one digit
@@ -87,29 +85,63 @@ module _ (s : List ℕ) (at u : ℕ) where
           none = not_whole at t;
         }
 
-pub missed_byte : {s : List ℕ} {at u : ℕ} → u < 2 ^ most → at < length s → 9 < value_at s at
-    → Missed s at u at
-unfolding Stop
-missed_byte {s} {at} {u} small here h = missed_first s at u small here go
-  where
-    stop : (x : List ℕ) → Stop (get_or s at 0 ∷ x)
-    stop x = rw (drop-cons s at 0 here) at (value_stop s at h)
+module _ {s : List ℕ} {at u : ℕ} (small : u < 2 ^ most) where
+  -- a byte at which no label begins
+  missed_other : at < length s → digit_at s at ≡ None → Missed s at u at
+  unfolding Stop
+  missed_other here h = missed_first s at u small here go
+    where
+      stop : (x : List ℕ) → Stop (get_or s at 0 ∷ x)
+      stop x = rw (drop-cons s at 0 here) at (no_digit s at h)
 
-    go : (x : List ℕ) (d : ℕ) (w : List ℕ) → has u d ≡ true
-        → Spelt d w (get_or s at 0 ∷ x) → ⊥
-    go x d w m (single l e) =
-        let b : get_or s at 0 ≡ 48 + d = cc in
-        digit_goes_on d x l (rw b at (stop x))
-    go x d w m (double l e) =
-        let b : get_or s at 0 ≡ 48 + d / 10 = cc in
-        digit_goes_on (d / 10) x (omega (arith, has_below most u d small m)) (rw b at (stop x))
+      go : (x : List ℕ) (d : ℕ) (w : List ℕ) → has u d ≡ true
+          → Spelt d w (get_or s at 0 ∷ x) → ⊥
+      go x d w m (single l e) =
+          let b : get_or s at 0 ≡ 48 + d = cc in
+          digit_goes_on d x l (rw b at (stop x))
+      go x d w m (double l e) =
+          let b : get_or s at 0 ≡ 48 + d / 10 = cc in
+          digit_goes_on (d / 10) x (omega (arith, has_below most u d small m)) (rw b at (stop x))
+
+  -- the end of the text
+  missed_end : at ≡ length s → Missed s at u at
+  missed_end e = record {
+    after = omega arith;
+    inside = omega arith;
+    before = inl refl;
+    there = λ l. absurd (omega arith);
+    none = λ d w m _ q. some d w (spelt d w (omega (arith, has_below most u d small m)))
+        (rest (decimal d ++ w) q);
+  }
+    where
+      rest : (x : List ℕ) → s ≡ take at s ++ x → [] ≡ x
+      rest x q =
+          cancel s [] x
+          (append-nil s ∙ q ∙ ap (λ (t : List ℕ). t ++ x) (take_all at s (omega arith)))
+
+      some : (d : ℕ) (w : List ℕ) → Spelt d w (decimal d ++ w) → [] ≡ decimal d ++ w → ⊥
+      some d w (single l p) q = cons-ne-nil _ _ (sym (q ∙ p))
+      some d w (double l p) q = cons-ne-nil _ _ (sym (q ∙ p))
+
+  pub missed_byte : at ≤ length s → digit_at s at ≡ None → Missed s at u at
+  missed_byte inside h = go (either (ltb at (length s)))
+    where
+      go : (ltb at (length s) ≡ true) ⊎ (ltb at (length s) ≡ false) → Missed s at u at
+      go (inl l) = missed_other (ltb-true at (length s) l) h
+      go (inr l) = missed_end (omega (arith, inside, ltb-false at (length s) l))
 
 module _ {s : List ℕ} {at u a : ℕ} (D : Digit s at u a) where
+  here : at < length s
+  here = (digit_byte s at a D.is).0
+
   byte : get_or s at 0 ≡ 48 + a
-  byte = rw D.is (value_byte s at (rw D.is at D.low)).1
+  byte = (digit_byte s at a D.is).1
+
+  low : a < 10
+  low = (digit_byte s at a D.is).2
 
   pub missed_digit : begun u a ≡ false → Missed s at u at
-  missed_digit n = missed_first s at u D.small D.here go
+  missed_digit n = missed_first s at u D.small here go
     where
       go : (x : List ℕ) (d : ℕ) (w : List ℕ) → has u d ≡ true
           → Spelt d w (get_or s at 0 ∷ x) → ⊥
@@ -124,17 +156,17 @@ module _ {s : List ℕ} {at u a : ℕ} (D : Digit s at u a) where
   -- ---- found
   pub found_zero : begun u a ≡ true → a ≡ 0 → Found s at u 0 (at + 1)
   found_zero b z =
-      found_single s at u 0 (omega arith) D.here (rw z at byte) (go (begun-some u a b))
+      found_single s at u 0 (omega arith) here (rw z at byte) (go (begun-some u a b))
       (λ p. absurd (omega arith))
     where
       go : (d : ℕ) × (has u d ≡ true) × Begins a d → has u 0 ≡ true
       go (d, m, alone p) = rw z at (rw p at m)
       go (d, m, with_second l i k p) = absurd (omega arith)
 
-  pub found_one : 9 < value_at s (at + 1) → has u a ≡ true
+  pub found_one : digit_at s (at + 1) ≡ None → has u a ≡ true
       → Found s at u a (at + 1)
   found_one h m =
-      found_single s at u a D.low D.here byte m (λ _. value_stop s (at + 1) h)
+      found_single s at u a low here byte m (λ _. no_digit s (at + 1) h)
 
   -- ---- missed at the second byte: what is before it begins a label
   begins_label : begun u a ≡ true
@@ -146,18 +178,18 @@ module _ {s : List ℕ} {at u a : ℕ} (D : Digit s at u a) where
           → (d : ℕ) × (w : List ℕ) × (has u d ≡ true)
           × (take (at + 1) s ++ w ≡ take at s ++ decimal d)
       go (d, m, alone p) =
-          (d, [], m, rw (add-one at, step s [] at D.here, byte, p, one_digit a D.low))
+          (d, [], m, rw (add-one at, step s [] at here, byte, p, one_digit a low))
       go (d, m, with_second l i k p) =
-          let q : d / 10 ≡ a = omega arith in
-          let r : d % 10 ≡ i = omega arith in (
+          let q : d / 10 ≡ a = omega (arith, low) in
+          let r : d % 10 ≡ i = omega (arith, low) in (
             d,
             (48 + i) ∷ [],
             m,
             rw (
               add-one at,
-              step s ((48 + i) ∷ []) at D.here,
+              step s ((48 + i) ∷ []) at here,
               byte,
-              two_digits d (omega arith) (omega arith),
+              two_digits d (omega arith) (omega (arith, low)),
               q,
               r,
             ),
@@ -169,18 +201,18 @@ module _ {s : List ℕ} {at u a : ℕ} (D : Digit s at u a) where
       → take (suc (at + 1)) s ++ x ≡ take at s ++ (decimal d ++ w)
       → Spelt d w (get_or s at 0 ∷ get_or s (at + 1) 0 ∷ x)
   from_second x d w m h e =
-      from_place s at u D.small D.here (get_or s (at + 1) 0 ∷ x) d w m
+      from_place s at u D.small here (get_or s (at + 1) 0 ∷ x) d w m
       (ap (λ (i : ℕ). take i s ++ (get_or s (at + 1) 0 ∷ x)) (sym (add-one at))
       ∙ sym (step s x (at + 1) h)
       ∙ e)
 
   -- no digit follows: a byte that is none, or the end of the text
-  pub missed_single : begun u a ≡ true → 9 < value_at s (at + 1) → has u a ≡ false
+  pub missed_single : begun u a ≡ true → digit_at s (at + 1) ≡ None → has u a ≡ false
       → Missed s at u (at + 1)
   unfolding NotThere
   missed_single starts h n = record {
     after = omega arith;
-    inside = omega arith;
+    inside = omega (arith, here);
     before = inr (begins_label starts);
     there = more;
     none = go (either (ltb (at + 1) (length s)));
@@ -199,7 +231,7 @@ module _ {s : List ℕ} {at u a : ℕ} (D : Digit s at u a) where
           on (double k e) =
               let b : get_or s (at + 1) 0 ≡ 48 + d % 10 = cc in
               digit_goes_on (d % 10) (drop (suc (at + 1)) s) (omega arith)
-              (rw (drop-cons s (at + 1) 0 l, b) at (value_stop s (at + 1) h))
+              (rw (drop-cons s (at + 1) 0 l, b) at (no_digit s (at + 1) h))
 
       go : (ltb (at + 1) (length s) ≡ true) ⊎ (ltb (at + 1) (length s) ≡ false)
           → (d : ℕ) (w : List ℕ) → has u d ≡ true → Ends d w
@@ -207,7 +239,7 @@ module _ {s : List ℕ} {at u a : ℕ} (D : Digit s at u a) where
       go (inl l) d w m st q =
           not_whole s at u (at + 1) (more (ltb-true (at + 1) (length s) l)) d w m st q
       go (inr l) d w m st q =
-          on (from_place s at u D.small D.here [] d w m (append-nil (take (suc at) s)
+          on (from_place s at u D.small here [] d w m (append-nil (take (suc at) s)
           ∙ take_all (suc at) s (omega (arith, ltb-false (at + 1) (length s) l))
           ∙ q))
         where
@@ -217,16 +249,14 @@ module _ {s : List ℕ} {at u a : ℕ} (D : Digit s at u a) where
 
 -- ---- two digits
 module _ {s : List ℕ} {at u a c : ℕ} (T : Digits s at u a c) where
-  second : (at + 1 < length s) × (get_or s (at + 1) 0 ≡ 48 + c)
-  second =
-      let v = value_byte s (at + 1) (rw T.is at T.low) in
-      (v.0, rw T.is v.1)
+  second : (at + 1 < length s) × (get_or s (at + 1) 0 ≡ 48 + c) × (c < 10)
+  second = digit_byte s (at + 1) c T.is
 
   pub found-two : has u (10 * a + c) ≡ true → Found s at u (10 * a + c) (at + 2)
   found-two m =
       let two : at + 2 ≡ suc (at + 1) = omega arith in
-      let q : (10 * a + c) / 10 ≡ a = omega arith in
-      let r : (10 * a + c) % 10 ≡ c = omega arith in
+      let q : (10 * a + c) / 10 ≡ a = omega (arith, second.2) in
+      let r : (10 * a + c) % 10 ≡ c = omega (arith, second.2) in
       record {
         among = m;
         is = λ x. rw (
@@ -234,9 +264,9 @@ module _ {s : List ℕ} {at u a c : ℕ} (T : Digits s at u a c) where
           step s x (at + 1) second.0,
           second.1,
           add-one at,
-          step s ((48 + c) ∷ x) at T.first.here,
+          step s ((48 + c) ∷ x) at (here T.first),
           byte T.first,
-          two_digits (10 * a + c) (omega arith) (omega arith),
+          two_digits (10 * a + c) (omega (arith, T.more)) (omega (arith, low T.first, second.2)),
           q,
           r,
         );
@@ -263,7 +293,7 @@ module _ {s : List ℕ} {at u a c : ℕ} (T : Digits s at u a c) where
       go x d w m st (single l q) =
           let f : get_or s at 0 ≡ 48 + d = cc in
           let z : w ≡ (48 + c) ∷ x = cc second.1 in
-          digit_goes_on c x T.low (rw z at (st (omega (arith, byte T.first)) l))
+          digit_goes_on c x second.2 (rw z at (st (omega (arith, byte T.first)) l))
       go x d w m st (double l q) =
           let f : get_or s at 0 ≡ 48 + d / 10 = cc in
           let g : get_or s (at + 1) 0 ≡ 48 + d % 10 = cc in

@@ -1,4 +1,5 @@
 -- `LabelIs` leaves one answer. Assumes nothing.
+use Rattle.std.specs.Prelude.{Result, Ok, Err}
 use mathlib.Core.Path.{◌≡◌, sym, ap, ap₂, ◌∙◌}
 use mathlib.Core.Logic.{◌⊎◌, inl, inr}
 use mathlib.Core.Bool.{true}
@@ -13,7 +14,7 @@ use Rattle.taxa.specs.Sets.{has}
 use Rattle.taxa.proofs.Sets.{has_below}
 use Rattle.lines.specs.Lines.{decimal}
 use Rattle.newick_labels.specs.declared.Label.{Label}
-use Rattle.newick_labels.specs.declared.Label.TheVariants.{Taxon, Bad}
+use Rattle.newick_labels.specs.declared.NotNewick.{NotNewick}
 use Rattle.newick_labels.specs.Between.{Stop, Found, Missed, LabelIs}
 use Rattle.newick_labels.proofs.TextLaws.{cancel, label_settled}
 
@@ -75,13 +76,14 @@ module _ (s : List ℕ) (at u : ℕ) where
       omega (arith, lt_of_not-le (not_sooner p q m n), lt_of_not-le (not_sooner q p n m))
 
 -- one answer
-pub label_one : (s : List ℕ) (at u : ℕ) → u < 2 ^ most → (a b : Label)
+pub label_one : (s : List ℕ) (at u : ℕ) → u < 2 ^ most → (a b : Result Label NotNewick)
     → LabelIs s at u a → LabelIs s at u b → a ≡ b
-label_one s at u small (Taxon d p) (Taxon e q) f g =
-    let same = found_same s at u small d p e q f g in
-    ap₂ Taxon same.0 same.1
-label_one s at u small (Taxon d p) (Bad q) f m =
-    absurd (found_missed s at u d p q f m)
-label_one s at u small (Bad p) (Taxon e q) m g =
-    absurd (found_missed s at u e q p g m)
-label_one s at u small (Bad p) (Bad q) m n = ap Bad (missed_same s at u p q m n)
+label_one s at u small (Ok l) (Ok k) f g =
+    let same = found_same s at u small l.taxon l.end k.taxon k.end f g in
+    ap₂ (λ (d p : ℕ). Ok (record { taxon = d; end = p })) same.0 same.1
+label_one s at u small (Ok l) (Err e) f m =
+    absurd (found_missed s at u l.taxon l.end e.at f m)
+label_one s at u small (Err e) (Ok k) m g =
+    absurd (found_missed s at u k.taxon k.end e.at g m)
+label_one s at u small (Err e) (Err i) m n =
+    ap (λ (p : ℕ). Err (record { at = p })) (missed_same s at u e.at i.at m n)

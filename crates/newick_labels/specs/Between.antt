@@ -2,11 +2,11 @@
 -- text, its number in decimal with no leading zeros. Which taxa may stand there
 -- is a set. A label is settled by the byte after it, so it is judged byte by
 -- byte.
-use Rattle.std.specs.Prelude.{ℕ, suc, ◌≤◌, ◌<◌, ◌*◌, ◌-◌, ◌/◌, ◌%◌, ◌^◌, ◌≡◌, ◌⊎◌, Bool, true, false, ◌&&◌, ◌||◌, List, [], ◌∷◌, ◌++◌, leb, ltb, length, take, drop, get_or}
-use Rattle.taxa.specs.Sets.{has, pick, some}
+use Rattle.std.specs.Prelude.{ℕ, suc, ◌≤◌, ◌<◌, ◌*◌, ◌-◌, ◌/◌, ◌%◌, ◌^◌, ◌≡◌, ◌⊎◌, Bool, true, false, ◌&&◌, ◌||◌, List, [], ◌∷◌, ◌++◌, leb, ltb, length, take, drop, get_or, Option, Some, None, Result, Ok, Err, if◌then◌else◌}
+use Rattle.taxa.specs.Sets.{has, some}
 use Rattle.lines.specs.Lines.{decimal}
 use Rattle.newick_labels.specs.declared.Label.{Label}
-use Rattle.newick_labels.specs.declared.Label.TheVariants.{Taxon, Bad}
+use Rattle.newick_labels.specs.declared.NotNewick.{NotNewick}
 
 -- b is a digit in ASCII
 abbrev pub digit : ℕ → Bool
@@ -47,17 +47,17 @@ pub record Missed (s : List ℕ) (at u p : ℕ) : Type 0 where
       → s ≡ take at s ++ (decimal d ++ w) → ⊥
 
 -- what a read answers
-abbrev pub LabelIs : List ℕ → ℕ → ℕ → Label → Type 0
-LabelIs s at u (Taxon d p) = Found s at u d p
-LabelIs s at u (Bad p) = Missed s at u p
+abbrev pub LabelIs : List ℕ → ℕ → ℕ → Result Label NotNewick → Type 0
+LabelIs s at u (Ok l) = Found s at u l.taxon l.end
+LabelIs s at u (Err e) = Missed s at u e.at
 
 -- a digit stands at a place
-abbrev pub digit_at : List ℕ → ℕ → Bool
-digit_at s i = ltb i (length s) && digit (get_or s i 0)
+abbrev pub stands : List ℕ → ℕ → Bool
+stands s i = ltb i (length s) && digit (get_or s i 0)
 
--- its number, or 10 where none stands there
-unfoldable pub value_at : List ℕ → ℕ → ℕ
-value_at s i = pick (digit_at s i) (get_or s i 0 - 48) 10
+-- its number, where one stands there
+unfoldable pub digit_at : List ℕ → ℕ → Option ℕ
+digit_at s i = if stands s i then Some (get_or s i 0 - 48) else None
 
 -- the digits that after the digit a make a taxon of u
 abbrev pub seconds : ℕ → ℕ → ℕ

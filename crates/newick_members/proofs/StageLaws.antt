@@ -1,31 +1,30 @@
 -- What each step of the reader comes to, from what it asked. Assumes nothing.
+use Rattle.std.specs.Prelude.{Result, Ok, Err}
 use mathlib.Core.Path.{◌≡◌, refl, sym, ap, ap₂, ◌∙◌, subst}
 use mathlib.Core.Logic.{◌⊎◌, inl, inr}
 use mathlib.Core.Bool.{Bool, true, false, true≢false, ◌&&◌}
-use mathlib.Core.List.{List, ◌∷◌, ◌++◌}
+use mathlib.Core.List.{List}
 use Prim.Native.Nat.{ℕ, suc, ◌+◌, ◌≤◌, ◌<◌}
 use native.Mathlib.Numerals.{add-one}
 use native.Mathlib.Omega.{arith}
 use lib.Dec.{ltb}
-use lib.ListN.{length, take, get_or, length-append}
-use lib.Seq.{take_all}
-use borrow.Author.Tests.{lt-ltb, ltb-true, ltb-false, eq-eqb, ne_eqb}
+use lib.ListN.{length, get_or}
+use borrow.Author.Tests.{lt-ltb, ltb-true, ltb-false, eq-eqb}
 use Rattle.taxa.specs.Most.{most}
-use Rattle.taxa.specs.Sets.{tally, has, less, full, size}
+use Rattle.taxa.specs.Sets.{tally, has, size}
 use Rattle.taxa.proofs.Bools.{either}
-use Rattle.taxa.proofs.Sizes.{size-wide}
+use Rattle.std.proofs.lemmas.Bool.Decides.{nat_tests}
+use Rattle.taxa.proofs.Sizes.{size-wide, size_le}
 use Rattle.tree.specs.Tree.{rows}
-use Rattle.lines.specs.Lines.{decimal}
-use Rattle.newick_labels.specs.Between.{Missed}
+use Rattle.newick_labels.specs.declared.NotNewick.{NotNewick}
 use Rattle.newick_grammar.specs.Newick.{taxon, group, NoTree, opens, comma}
 use Rattle.newick_grammar.specs.Numbers.{groups, node, join, with_rows}
 use Rattle.newick_grammar.proofs.Valid.{node_lt}
-use Rattle.newick_members.specs.declared.Cursor.{Cursor}
-use Rattle.newick_members.specs.declared.Got.{Got}
-use Rattle.newick_members.specs.declared.Got.TheVariants as got
-use Rattle.newick_members.specs.Between.{mark, Within, allowed, Slot, here, Past}
+use Rattle.newick_members.specs.Between.{mark, Within, Slot, here, Past}
 use Rattle.newick_members.specs.Between.{ahead, TakenIs, Ready, Read, GotIs, Closes, ClosedIs}
-use Rattle.newick_members.proofs.Members.{allowed-low, label_first, below_n, mark-size}
+use Rattle.newick_members.specs.declared.Cursor.{Cursor}
+use Rattle.newick_members.specs.declared.Member as code
+use Rattle.newick_members.proofs.Members.{below_n, mark-size}
 use Rattle.newick_members.proofs.Places.{here_in, here-is}
 use Rattle.newick_members.proofs.SlotLaws.{no_more, too_deep, bad_label, past-taxon}
 use Rattle.newick_members.proofs.SlotLaws.{left_slot, no_comma, right-slot, no_close}
@@ -41,60 +40,33 @@ module _ {n : ℕ} (u : ℕ) (few : n ≤ most) (w : Within n u) where
       below i p (inl e) = ltb-true i n e
       below i p (inr e) = absurd (omega (arith, w i, ap tally p, ap tally e))
 
-  pub free-last : {o : Bool} → o ≡ false → size most u + 1 ≡ n
-      → less (full n) u ≡ allowed n u o
-  free-last e h = rw
-      (e, eq-eqb (suc (size n u)) n (omega (arith, h, size_is)))
-
-  pub free-none : {o : Bool} → o ≡ false → (size most u + 1 ≡ n → ⊥)
-      → 0 ≡ allowed n u o
-  free-none e h = rw
-      (e, ne_eqb (suc (size n u)) n (λ q. h (omega (arith, q, size_is))))
-
--- no label stands at the end of the text
-pub label_none : {s : List ℕ} {at n : ℕ} (u : ℕ) (o : Bool) → n ≤ most → length s ≤ at
-    → at ≤ length s → Missed s at (allowed n u o) at
-label_none {s} {at} u o few h k = record {
-  after = omega arith;
-  inside = k;
-  before = inl refl;
-  there = λ l x d w m e q. absurd (omega (arith, h, l));
-  none = λ d w m e q. absurd
-      (some d w (omega (arith, few, allowed-low u o m)) q);
-}
-  where
-    some : (d : ℕ) (w : List ℕ) → d < 100 → s ≡ take at s ++ (decimal d ++ w)
-        → ⊥
-    some d w l q =
-        let f = label_first d w l in
-        let e : length s ≡ length (take at s) + suc (length f.1) =
-        ap length (q ∙ ap (λ (z : List ℕ). take at s ++ z) f.2)
-        ∙ length-append (take at s) (f.0 ∷ f.1) in
-        omega (arith, e, ap length (take_all at s h))
+-- what the code counts
+pub ruleset counts = (size_is, size_le, nat_tests)
 
 -- ---- a member
-module _ {n : ℕ} {s : List ℕ} {c : Cursor} {m : ℕ} {o : Bool} (R : Ready n s c m o) where
+module _ {n : ℕ} {s : List ℕ} {c : Cursor} {m : ℕ} {o : Bool} (few : n ≤ most)
+    (R : Ready n s c m o) where
   -- a label
-  pub got_taxon : here s c.at opens ≡ false → (t : List ℕ) (r : Got) → TakenIs n s c o r
-      → GotIs n s c m o t t r
+  pub got_taxon : here s c.at opens ≡ false → (t : List ℕ) (r : Result code.Member NotNewick)
+      → TakenIs n s c o r → GotIs n s c m o t t r
   unfolding with_rows node groups mark
-  got_taxon e t (got.Bad p) M = go (ltb c.at (length s)) refl
+  got_taxon e t (Err p) M = go (ltb c.at (length s)) refl
     where
       not_open : c.at < length s → get_or s c.at 0 ≡ opens → ⊥
       not_open h q = true≢false
           (sym (ap₂ ◌&&◌ (lt-ltb c.at (length s) h) (eq-eqb (get_or s c.at 0) opens q)) ∙ e)
 
-      go : (b : Bool) → ltb c.at (length s) ≡ b → NoTree n s p
+      go : (b : Bool) → ltb c.at (length s) ≡ b → NoTree n s p.at
       go true l = let h = ltb-true c.at (length s) l in bad_label
-          R.few R.slot h (not_open h) M
+          few R.slot h (not_open h) M
       go false l =
           let h = ltb-false c.at (length s) l in
-          let q : c.at ≡ p = omega (arith, h, M.after, M.inside) in
+          let q : c.at ≡ p.at = omega (arith, h, M.after, M.inside) in
           subst (NoTree n s) q
-          (no_more R.few R.slot h)
-  got_taxon e t (got.Node d v) T = record {
-    member = taxon v;
-    past = past-taxon R.few R.slot T.found;
+          (no_more few R.slot h)
+  got_taxon e t (Ok x) T = record {
+    member = taxon x.node;
+    past = past-taxon few R.slot T.found;
     next = omega (arith, T.next);
     used = T.used;
     named = refl;
@@ -102,11 +74,11 @@ module _ {n : ℕ} {s : List ℕ} {c : Cursor} {m : ℕ} {o : Bool} (R : Ready n
   }
 
   count-is : size most c.used ≡ size n c.used
-  count-is = size_is c.used R.few R.slot.within
+  count-is = size_is c.used few R.slot.within
 
   module _ (h₀ : here s c.at opens ≡ true) where
     pub group_bad : n < size most c.used + m + 2 → NoTree n s c.at
-    group_bad k = too_deep R.few R.slot
+    group_bad k = too_deep few R.slot
         (here_in s c.at opens h₀) (here-is s c.at opens h₀)
         (omega (arith, k, count-is))
 
@@ -116,11 +88,9 @@ module _ {n : ℕ} {s : List ℕ} {c : Cursor} {m : ℕ} {o : Bool} (R : Ready n
 
       pub left_ready : Ready n s (ahead c) (m + 1) true
       left_ready = record {
-        big = R.big;
-        few = R.few;
         slot = subst (λ (i : ℕ). Slot n s (c.at + 1) c.used i true)
             (sym (add-one m))
-            (left_slot R.few R.slot h₀ room);
+            (left_slot few R.slot h₀ room);
         from = R.from;
         numbers = omega (arith, R.numbers);
       }
@@ -142,14 +112,14 @@ pub record BothRead (n : ℕ) (s t : List ℕ) (c : Cursor) (m : ℕ) (o : Bool)
   pub right : Read n s (ahead between) m o table t₂ f y
 
 module _ {n : ℕ} {s t : List ℕ} {c : Cursor} {m : ℕ} {o : Bool} {t₁ : List ℕ} {d : Cursor} {x : ℕ}
-    (H : LeftRead n s t c m o t₁ d x) where
+    (few : n ≤ most) (H : LeftRead n s t c m o t₁ d x) where
   past_left : Past n s (c.at + 1) c.used (suc m) true H.left.member d.at
   past_left = subst
       (λ (i : ℕ). Past n s (c.at + 1) c.used i true H.left.member d.at)
       (add-one m) H.left.past
 
   pub comma_bad : here s d.at comma ≡ false → NoTree n s d.at
-  comma_bad e = no_comma H.ready.few H.ready.slot H.opened past_left e
+  comma_bad e = no_comma few H.ready.slot H.opened past_left e
 
   left_size : size n d.used ≡ size n c.used + suc (groups H.left.member)
   left_size = ap (size n) H.left.used ∙ mark-size past_left.fits
@@ -159,16 +129,14 @@ module _ {n : ℕ} {s t : List ℕ} {c : Cursor} {m : ℕ} {o : Bool} {t₁ : Li
       let R = H.ready in
       let L = H.left in
       record {
-        big = R.big;
-        few = R.few;
         slot = subst (λ (u : ℕ). Slot n s (d.at + 1) u m o) (sym L.used)
-            (right-slot R.few R.slot H.opened past_left k);
+            (right-slot few R.slot H.opened past_left k);
         from = omega (arith, R.from, L.next);
         numbers = omega (arith, R.numbers, L.next, left_size);
       }
 
 module _ {n : ℕ} {s t : List ℕ} {c : Cursor} {m : ℕ} {o : Bool} {t₂ : List ℕ} {f : Cursor}
-    {x y : ℕ} (B : BothRead n s t c m o t₂ f x y) where
+    {x y : ℕ} (big : 4 ≤ n) (few : n ≤ most) (B : BothRead n s t c m o t₂ f x y) where
   abbrev R : Ready n s c m o
   R = B.half.ready
 
@@ -190,9 +158,9 @@ module _ {n : ℕ} {s t : List ℕ} {c : Cursor} {m : ℕ} {o : Bool} {t₂ : Li
     R.numbers,
     L.next,
     Q.next,
-    left_size B.half,
+    left_size few B.half,
     Q.past.fits.room,
-    R.big,
+    big,
   )
 
   left_node : x < f.next
@@ -201,7 +169,7 @@ module _ {n : ℕ} {s t : List ℕ} {c : Cursor} {m : ℕ} {o : Bool} {t₂ : Li
     L.named,
     L.next,
     Q.next,
-    node_lt n L.member c.next (below_n (past_left B.half).fits) R.from,
+    node_lt n L.member c.next (below_n (past_left few B.half).fits) R.from,
   )
 
   right-node : y < f.next
@@ -213,24 +181,24 @@ module _ {n : ℕ} {s t : List ℕ} {c : Cursor} {m : ℕ} {o : Bool} {t₂ : Li
         (omega (arith, R.from, L.next)),
   )
 
-  pub to_close : Closes s f x y
+  pub to_close : Closes f x y
   to_close = record {
-    inside = Q.past.inside;
-    first = omega (arith, left_node, parent_node, R.few);
-    second = omega (arith, right-node, parent_node, R.few);
-    last = omega (arith, parent_node, R.few);
+    first = omega (arith, left_node, parent_node, few);
+    second = omega (arith, right-node, parent_node, few);
+    last = omega (arith, parent_node, few);
   }
 
-  pub got_group : (t₃ : List ℕ) (r : Got) → ClosedIs s f x y t₂ t₃ r → GotIs n s c m o t t₃ r
+  pub got_group : (t₃ : List ℕ) (r : Result code.Member NotNewick) → ClosedIs s f x y t₂ t₃ r
+      → GotIs n s c m o t t₃ r
   unfolding with_rows node groups mark
-  got_group t₃ (got.Bad p) (e, h) = subst (NoTree n s) (sym e)
-      (no_close R.few R.slot B.half.opened (past_left B.half) B.parted past-right h)
-  got_group t₃ (got.Node g v) C = record {
+  got_group t₃ (Err p) (e, h) = subst (NoTree n s) (sym e)
+      (no_close few R.slot B.half.opened (past_left few B.half) B.parted past-right h)
+  got_group t₃ (Ok g) C = record {
     member = group L.member Q.member;
     past = subst
         (Past n s c.at c.used m o (group L.member Q.member))
         (sym (ap (λ (z : Cursor). z.at) C.after))
-        (past-group R.few R.slot B.half.opened (past_left B.half) B.parted
+        (past-group few R.slot B.half.opened (past_left few B.half) B.parted
         past-right C.closed);
     next = ap (λ (z : Cursor). z.next) C.after
         ∙ omega (arith, L.next, Q.next);

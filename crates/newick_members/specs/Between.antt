@@ -1,17 +1,17 @@
 -- What only stands between the functions. A slot is a place in a text at which
 -- a member must stand. What was read up to there tells which members may.
-use Rattle.std.specs.Prelude.{ℕ, suc, ◌+◌, ◌≤◌, ◌<◌, ◌≡◌, Bool, true, false, ◌&&◌, ◌||◌, List, [], ◌∷◌, ◌++◌, eqb, ltb, length, take, drop, get_or}
+use Rattle.std.specs.Prelude.{ℕ, suc, ◌+◌, ◌≤◌, ◌<◌, ◌≡◌, Bool, true, false, ◌&&◌, ◌||◌, List, [], ◌∷◌, ◌++◌, eqb, ltb, length, take, drop, get_or, Result, Ok, Err}
 use Rattle.taxa.specs.Most.{most}
 use Rattle.taxa.specs.Sets.{tally, pick, has, add, less, full, size}
 use Rattle.tree.specs.Tree.{rows}
 use Rattle.newick_labels.specs.Between.{Stop, Ends, Found, Missed}
+use Rattle.newick_labels.specs.declared.NotNewick.{NotNewick}
 use Rattle.newick_grammar.specs.Newick.{Member, taxon, group, Outermost, semicolon, closes, text}
 use Rattle.newick_grammar.specs.Newick.{whole}
 use Rattle.newick_grammar.specs.Newick.{times, EachOnce, IsTree, NoTree}
 use Rattle.newick_grammar.specs.Numbers.{groups, node, join, with_rows}
 use Rattle.newick_members.specs.declared.Cursor.{Cursor}
-use Rattle.newick_members.specs.declared.Got.{Got}
-use Rattle.newick_members.specs.declared.Got.TheVariants as got
+use Rattle.newick_members.specs.declared.Member as code
 
 -- the taxa of u, and those of a member
 unfoldable pub mark : Member → ℕ → ℕ
@@ -87,21 +87,24 @@ pub record Closing (n : ℕ) (s : List ℕ) (p : ℕ) (o : Outermost) : Type 0 w
 abbrev pub ahead : Cursor → Cursor
 ahead c = record { at = c.at + 1; next = c.next; used = c.used }
 
+-- the byte b is passed, or does not stand at c
+abbrev pub PassedIs : List ℕ → Cursor → ℕ → Result Cursor NotNewick → Type 0
+PassedIs s c b (Ok d) = (here s c.at b ≡ true) × (d ≡ ahead c)
+PassedIs s c b (Err e) = (here s c.at b ≡ false) × (e.at ≡ c.at)
+
 -- v is a taxon that may stand at c, and d is where its label ends
 pub record Taken (n : ℕ) (s : List ℕ) (c : Cursor) (o : Bool) (d : Cursor) (v : ℕ) : Type 0 where
   pub found : Found s c.at (allowed n c.used o) v d.at
   pub next : d.next ≡ c.next
   pub used : d.used ≡ add c.used v
 
-abbrev pub TakenIs : ℕ → List ℕ → Cursor → Bool → Got → Type 0
-TakenIs n s c o (got.Node d v) = Taken n s c o d v
-TakenIs n s c o (got.Bad p) = Missed s c.at (allowed n c.used o) p
+abbrev pub TakenIs : ℕ → List ℕ → Cursor → Bool → Result code.Member NotNewick → Type 0
+TakenIs n s c o (Ok m) = Taken n s c o m.after m.node
+TakenIs n s c o (Err e) = Missed s c.at (allowed n c.used o) e.at
 
 -- A slot is at c. Fewer groups have closed than taxa are read or must follow,
 -- so no node number is past the last.
 pub record Ready (n : ℕ) (s : List ℕ) (c : Cursor) (m : ℕ) (o : Bool) : Type 0 where
-  pub big : 4 ≤ n
-  pub few : n ≤ most
   pub slot : Slot n s c.at c.used m o
   pub from : n ≤ c.next
   pub numbers : suc c.next ≤ n + (size n c.used + m)
@@ -117,13 +120,13 @@ pub record Read (n : ℕ) (s : List ℕ) (c : Cursor) (m : ℕ) (o : Bool) (t t'
   pub named : v ≡ node member c.next
   pub written : t' ≡ with_rows member c.next t
 
-abbrev pub GotIs : ℕ → List ℕ → Cursor → ℕ → Bool → List ℕ → List ℕ → Got → Type 0
-GotIs n s c m o t t' (got.Node d v) = Read n s c m o t t' d v
-GotIs n s c m o t t' (got.Bad p) = NoTree n s p
+abbrev pub GotIs : ℕ → List ℕ → Cursor → ℕ → Bool → List ℕ → List ℕ
+    → Result code.Member NotNewick → Type 0
+GotIs n s c m o t t' (Ok x) = Read n s c m o t t' x.after x.node
+GotIs n s c m o t t' (Err e) = NoTree n s e.at
 
 -- x and y, whose parent has the next number, have rows
-pub record Closes (s : List ℕ) (c : Cursor) (x y : ℕ) : Type 0 where
-  pub inside : c.at ≤ length s
+pub record Closes (c : Cursor) (x y : ℕ) : Type 0 where
   pub first : x < rows most
   pub second : y < rows most
   pub last : c.next ≤ rows most
@@ -136,6 +139,7 @@ pub record Closed (s : List ℕ) (c : Cursor) (x y : ℕ) (t t' : List ℕ) (d :
   pub named : v ≡ c.next
   pub written : t' ≡ join y c.next (join x c.next t)
 
-abbrev pub ClosedIs : List ℕ → Cursor → ℕ → ℕ → List ℕ → List ℕ → Got → Type 0
-ClosedIs s c x y t t' (got.Node d v) = Closed s c x y t t' d v
-ClosedIs s c x y t t' (got.Bad p) = (p ≡ c.at) × (here s c.at closes ≡ false)
+abbrev pub ClosedIs : List ℕ → Cursor → ℕ → ℕ → List ℕ → List ℕ → Result code.Member NotNewick
+    → Type 0
+ClosedIs s c x y t t' (Ok m) = Closed s c x y t t' m.after m.node
+ClosedIs s c x y t t' (Err e) = (e.at ≡ c.at) × (here s c.at closes ≡ false)

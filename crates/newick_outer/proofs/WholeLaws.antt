@@ -17,9 +17,9 @@ use Rattle.newick_grammar.specs.Newick.{Outermost, NoTree, opens, comma, closes}
 use Rattle.newick_grammar.specs.Numbers.{groups, node, join, with_rows, blank, smaller, larger}
 use Rattle.newick_grammar.specs.Numbers.{table}
 use Rattle.newick_grammar.proofs.Valid.{node_lt, last-larger}
+use Rattle.std.specs.Prelude.{Result, Ok, Err}
+use Rattle.newick_labels.specs.declared.NotNewick.{NotNewick}
 use Rattle.newick_members.specs.declared.Cursor.{Cursor}
-use Rattle.newick_outer.specs.declared.Parsed.{Parsed}
-use Rattle.newick_outer.specs.declared.Parsed.TheVariants as parsed
 use Rattle.newick_members.specs.Between.{mark, Slot, here, Past, Closing, ahead, Ready, Read}
 use Rattle.newick_outer.specs.Between.{One, Two, EndIs, ParsedIs}
 use Rattle.newick_members.proofs.Members.{below_n, mark-within, mark-size}
@@ -32,21 +32,19 @@ use Rattle.newick_outer.proofs.Starts.{take-join, take-rows, take-blank}
 
 -- ---- the end of the text
 end_parsed : {n : ℕ} {s : List ℕ} {p : ℕ} {o : Outermost} → Closing n s p o → (t : List ℕ)
-    → take (2 * rows n) t ≡ table n o → (r : Parsed) → EndIs s p r → ParsedIs n s t r
-end_parsed {o = o} C t e parsed.Whole (h, l) = (o, whole-text C h l, e)
-end_parsed {n} {s} C t e (parsed.Bad q) (inl (i, h)) = subst (NoTree n s) (sym i) (no_semicolon C h)
-end_parsed {n} {s} C t e (parsed.Bad q) (inr (i, h, l)) =
+    → take (2 * rows n) t ≡ table n o → (r : Result (Unit {0}) NotNewick) → EndIs s p r
+    → ParsedIs n s t r
+end_parsed {o = o} C t e (Ok u) (h, l) = (o, whole-text C h l, e)
+end_parsed {n} {s} C t e (Err q) (inl (i, h)) = subst (NoTree n s) (sym i) (no_semicolon C h)
+end_parsed {n} {s} C t e (Err q) (inr (i, h, l)) =
     subst (NoTree n s) (sym i) (more_after C h l)
 
-module _ {n : ℕ} {s : List ℕ} where
+module _ {n : ℕ} (big : 4 ≤ n) (few : n ≤ most) {s : List ℕ} where
   -- ---- the first member
-  module _ {t : List ℕ} (p : (4 ≤ n) × (n ≤ most) × (t ≡ blank most))
-      (h : here s 0 opens ≡ true) where
+  module _ {t : List ℕ} (p : t ≡ blank most) (h : here s 0 opens ≡ true) where
     pub first_ready : Ready n s (record { at = 1; next = n; used = 0 }) 1 true
     first_ready = record {
-      big = p.0;
-      few = p.1;
-      slot = first_slot p.1 s h p.0;
+      slot = first_slot few s h big;
       from = omega arith;
       numbers = omega (arith, size_none n);
     }
@@ -54,29 +52,25 @@ module _ {n : ℕ} {s : List ℕ} where
     pub one_read : {t₁ : List ℕ} {c : Cursor} {x : ℕ}
         → Read n s (record { at = 1; next = n; used = 0 }) 1 true t t₁ c x → One n s t₁ c x
     one_read L = record {
-      big = p.0;
-      few = p.1;
       opened = h;
       first = L.member;
       past = L.past;
       next = L.next;
       used = L.used;
       named = L.named;
-      written = L.written ∙ ap (with_rows L.member n) p.2;
+      written = L.written ∙ ap (with_rows L.member n) p;
     }
 
   -- ---- the second member
   module _ {t : List ℕ} {c : Cursor} {x : ℕ} (O : One n s t c x) where
     pub no_second : here s c.at comma ≡ false → NoTree n s c.at
-    no_second e = no_first_comma O.few s O.opened O.past e
+    no_second e = no_first_comma few s O.opened O.past e
 
     module _ (k : here s c.at comma ≡ true) where
       pub second_ready : Ready n s (ahead c) 0 true
       second_ready = record {
-        big = O.big;
-        few = O.few;
         slot = subst (λ (u : ℕ). Slot n s (c.at + 1) u 0 true) (sym O.used)
-            (second-slot O.few s O.opened O.past k);
+            (second-slot few s O.opened O.past k);
         from = omega (arith, O.next);
         numbers = omega (
           arith,
@@ -88,8 +82,6 @@ module _ {n : ℕ} {s : List ℕ} where
       pub two-read : {t₁ : List ℕ} {d : Cursor} {y : ℕ}
           → Read n s (ahead c) 0 true t t₁ d y → Two n s t₁ d x y
       two-read {d = d} Q = record {
-        big = O.big;
-        few = O.few;
         opened = O.opened;
         first = O.first;
         place = c.at;
@@ -137,7 +129,7 @@ module _ {n : ℕ} {s : List ℕ} where
 
     counted : size most c.used ≡ size n c.used
     counted = subst (λ (u : ℕ). size most u ≡ size n u) (sym T.used)
-        (size_is (mark T.second (mark T.first 0)) T.few (mark-within T.past.fits))
+        (size_is (mark T.second (mark T.first 0)) few (mark-within T.past.fits))
 
     pub some_left : (size most c.used ≡ n → ⊥) → size n c.used < n
     some_left h = lt_of_le-ne (size_le n c.used) (λ q. h (counted ∙ q))
@@ -148,12 +140,12 @@ module _ {n : ℕ} {s : List ℕ} where
       none = sym both_size ∙ sym counted ∙ all
 
       pub no_end : here s c.at closes ≡ false → NoTree n s c.at
-      no_end e = no_two_close T.few s T.opened T.past_first T.parted T.past none e
+      no_end e = no_two_close few s T.opened T.past_first T.parted T.past none e
 
       -- the larger of the two nodes is the last
       ends : ((x < y) × (y ≡ rows n)) ⊎ ((y < x) × (x ≡ rows n))
       ends = rw (T.named, T.named-first)
-          (last-larger n T.first T.second T.big (below_n T.past_first.fits)
+          (last-larger n T.first T.second big (below_n T.past_first.fits)
           (below_n T.past.fits) (omega (arith, size_both, counted, all)))
 
       smaller-low : smaller x y < rows n
@@ -165,18 +157,18 @@ module _ {n : ℕ} {s : List ℕ} where
 
       pub join-room : (smaller x y < rows most) × (x < 256) × (y < 256)
       join-room = (
-        omega (arith, smaller-low, T.few),
-        omega (arith, x_low, size_both, counted, all, T.few),
-        omega (arith, y_low, T.next, size_both, counted, all, T.few),
+        omega (arith, smaller-low, few),
+        omega (arith, x_low, size_both, counted, all, few),
+        omega (arith, y_low, T.next, size_both, counted, all, few),
       )
 
       pub two_parsed : (e : here s c.at closes ≡ true) {u : List ℕ}
-          → u ≡ join (smaller x y) (larger x y) t → (r : Parsed)
+          → u ≡ join (smaller x y) (larger x y) t → (r : Result (Unit {0}) NotNewick)
           → EndIs s (c.at + 1) r → ParsedIs n s u r
       unfolding table
       two_parsed e {u} q =
           end_parsed
-          (two_closing T.few s T.opened T.past_first T.parted T.past none e)
+          (two_closing few s T.opened T.past_first T.parted T.past none e)
           u (rw (
             q,
             T.written,
@@ -185,7 +177,7 @@ module _ {n : ℕ} {s : List ℕ} where
             take-join,
             take-rows,
             take-rows,
-            take-blank T.few,
+            take-blank few,
           ))
 
     -- ---- three members
@@ -195,15 +187,13 @@ module _ {n : ℕ} {s : List ℕ} where
 
       pub no_third : here s c.at comma ≡ false → NoTree n s c.at
       no_third e =
-          no_second_comma T.few s T.opened T.past_first T.parted T.past some e
+          no_second_comma few s T.opened T.past_first T.parted T.past some e
 
       pub third_ready : here s c.at comma ≡ true → Ready n s (ahead c) 0 false
       third_ready k = record {
-        big = T.big;
-        few = T.few;
         slot = subst (λ (u : ℕ). Slot n s (c.at + 1) u 0 false)
             (sym T.used)
-            (third-slot T.few s T.opened T.past_first T.parted T.past some k);
+            (third-slot few s T.opened T.past_first T.parted T.past some k);
         from = omega (arith, T.next);
         numbers = omega (arith, T.next, size_both);
       }
@@ -217,7 +207,8 @@ pub record Three (n : ℕ) (s t : List ℕ) (c : Cursor) (x y z : ℕ) : Type 0 
   pub parted : here s between.at comma ≡ true
   pub third : Read n s (ahead between) 0 false table t c z
 
-module _ {n : ℕ} {s t : List ℕ} {c : Cursor} {x y z : ℕ} (H : Three n s t c x y z) where
+module _ {n : ℕ} {s t : List ℕ} {c : Cursor} {x y z : ℕ} (big : 4 ≤ n) (few : n ≤ most)
+    (H : Three n s t c x y z) where
   past-third : Past n s (H.between.at + 1) (mark H.both.second (mark H.both.first 0)) 0
       false H.third.member c.at
   past-third = subst
@@ -227,7 +218,7 @@ module _ {n : ℕ} {s t : List ℕ} {c : Cursor} {x y z : ℕ} (H : Three n s t 
   pub no_last : here s c.at closes ≡ false → NoTree n s c.at
   no_last e =
       let T = H.both in
-      no_three_close T.few s T.opened T.past_first T.parted T.past (some T H.left)
+      no_three_close few s T.opened T.past_first T.parted T.past (some big few T H.left)
       H.parted past-third e
 
   -- the outermost group is the last node
@@ -236,7 +227,7 @@ module _ {n : ℕ} {s t : List ℕ} {c : Cursor} {x y z : ℕ} (H : Three n s t 
     arith,
     H.third.next,
     H.both.next,
-    size_both H.both,
+    size_both big few H.both,
     H.third.past.fits.full refl,
   )
 
@@ -251,31 +242,29 @@ module _ {n : ℕ} {s t : List ℕ} {c : Cursor} {x y z : ℕ} (H : Three n s t 
 
   -- each of the three rows has its place in the table
   fits-row : {v : ℕ} → v < c.next → (v < rows most) × (c.next < 256)
-  fits-row h = (omega (arith, h, last-node, H.both.few), omega (arith, last-node, H.both.few))
+  fits-row h = (omega (arith, h, last-node, few), omega (arith, last-node, few))
 
   pub x_room : (x < rows most) × (c.next < 256)
-  x_room = fits-row (omega (arith, x_low H.both, H.third.next, H.both.next))
+  x_room = fits-row (omega (arith, x_low big few H.both, H.third.next, H.both.next))
 
   pub y_room : (y < rows most) × (c.next < 256)
-  y_room = fits-row (omega (arith, y_low H.both, H.third.next))
+  y_room = fits-row (omega (arith, y_low big few H.both, H.third.next))
 
   pub z_room : (z < rows most) × (c.next < 256)
   z_room = fits-row z_low
 
-  pub three_parsed : {t₁ t₂ : List ℕ} → t₁ ≡ join x c.next t → t₂ ≡ join y c.next t₁
-      → here s c.at closes ≡ true → {u : List ℕ} → u ≡ join z c.next t₂
-      → (r : Parsed) → EndIs s (c.at + 1) r → ParsedIs n s u r
+  pub three_parsed : here s c.at closes ≡ true → {u : List ℕ}
+      → u ≡ join z c.next (join y c.next (join x c.next t)) → (r : Result (Unit {0}) NotNewick)
+      → EndIs s (c.at + 1) r → ParsedIs n s u r
   unfolding table
-  three_parsed e₁ e₂ e {u} q =
+  three_parsed e {u} q =
       let T = H.both in
       let Q = H.third in
       end_parsed
-      (three_closing T.few s T.opened T.past_first T.parted T.past
-      (some T H.left) H.parted past-third e)
+      (three_closing few s T.opened T.past_first T.parted T.past
+      (some big few T H.left) H.parted past-third e)
       u (rw (
         q,
-        e₂,
-        e₁,
         Q.written,
         Q.named,
         Q.next,
@@ -289,5 +278,5 @@ module _ {n : ℕ} {s t : List ℕ} {c : Cursor} {x y z : ℕ} (H : Three n s t 
         take-rows,
         take-rows,
         take-rows,
-        take-blank T.few,
+        take-blank few,
       ))

@@ -1,19 +1,16 @@
 -- What only stands between the functions: how much of the outermost group was
 -- read.
-use Rattle.std.specs.Prelude.{ℕ, ◌+◌, ◌*◌, ◌≤◌, ◌<◌, ◌≡◌, ◌⊎◌, true, false, List, length, take}
+use Rattle.std.specs.Prelude.{ℕ, ◌+◌, ◌*◌, ◌≤◌, ◌<◌, ◌≡◌, ◌⊎◌, true, false, List, length, take, Result, Ok, Err}
 use Rattle.taxa.specs.Most.{most}
 use Rattle.tree.specs.Tree.{rows}
 use Rattle.newick_grammar.specs.Newick.{Member, Outermost, Stands, NoTree, opens, comma, semicolon}
 use Rattle.newick_grammar.specs.Numbers.{groups, node, with_rows, blank, table}
-use Rattle.newick_members.specs.Between.{mark, here, Past}
+use Rattle.newick_labels.specs.declared.NotNewick.{NotNewick}
 use Rattle.newick_members.specs.declared.Cursor.{Cursor}
-use Rattle.newick_outer.specs.declared.Parsed.{Parsed}
-use Rattle.newick_outer.specs.declared.Parsed.TheVariants as parsed
+use Rattle.newick_members.specs.Between.{mark, here, Past}
 
 -- its first member is read
 pub record One (n : ℕ) (s t : List ℕ) (c : Cursor) (x : ℕ) : Type 0 where
-  pub big : 4 ≤ n
-  pub few : n ≤ most
   pub opened : here s 0 opens ≡ true
   pub first : Member
   pub past : Past n s 1 0 1 true first c.at
@@ -24,8 +21,6 @@ pub record One (n : ℕ) (s t : List ℕ) (c : Cursor) (x : ℕ) : Type 0 where
 
 -- its second member is read, the first up to the place p
 pub record Two (n : ℕ) (s t : List ℕ) (c : Cursor) (x y : ℕ) : Type 0 where
-  pub big : 4 ≤ n
-  pub few : n ≤ most
   pub opened : here s 0 opens ≡ true
   pub first : Member
   pub place : ℕ
@@ -40,13 +35,17 @@ pub record Two (n : ℕ) (s t : List ℕ) (c : Cursor) (x y : ℕ) : Type 0 wher
   pub written : t ≡ with_rows second (n + groups first) (with_rows first n (blank most))
 
 -- the text ends with a semicolon at a place; or it lacks that, or goes on
-abbrev pub EndIs : List ℕ → ℕ → Parsed → Type 0
-EndIs s at parsed.Whole = (here s at semicolon ≡ true) × (length s ≤ at + 1)
-EndIs s at (parsed.Bad p) =
-    ((p ≡ at) × (here s at semicolon ≡ false))
-    ⊎ ((p ≡ at + 1) × (here s at semicolon ≡ true) × (at + 1 < length s))
+abbrev pub EndIs : List ℕ → ℕ → Result (Unit {0}) NotNewick → Type 0
+EndIs s at (Ok u) = (here s at semicolon ≡ true) × (length s ≤ at + 1)
+EndIs s at (Err e) =
+    ((e.at ≡ at) × (here s at semicolon ≡ false))
+    ⊎ ((e.at ≡ at + 1) × (here s at semicolon ≡ true) × (at + 1 < length s))
 
--- the text is a tree, whose table stands at the start of t; or it is none
-abbrev pub ParsedIs : ℕ → List ℕ → List ℕ → Parsed → Type 0
-ParsedIs n s t parsed.Whole = (o : Outermost) × Stands n s o × (take (2 * rows n) t ≡ table n o)
-ParsedIs n s t (parsed.Bad p) = NoTree n s p
+-- the text is a tree, whose table stands at the start of t
+abbrev pub Tabled : ℕ → List ℕ → List ℕ → Type 0
+Tabled n s t = (o : Outermost) × Stands n s o × (take (2 * rows n) t ≡ table n o)
+
+-- that, or the text is none
+abbrev pub ParsedIs : ℕ → List ℕ → List ℕ → Result (Unit {0}) NotNewick → Type 0
+ParsedIs n s t (Ok u) = Tabled n s t
+ParsedIs n s t (Err e) = NoTree n s e.at

@@ -2,35 +2,25 @@
 // the end of the text.
 #![tactic(auto)]
 
-ghost use Rattle.std.specs.Prelude.{◌+◌, ◌<◌, ◌≤◌, ◌≡◌, length};
+ghost use Rattle.std.specs.Prelude.{◌<◌, ◌≤◌, ◌≡◌};
 ghost use Rattle.taxa.specs.Most.{most};
 ghost use Rattle.taxa.specs.Sets.{size};
 ghost use Rattle.tree.specs.Tree.{rows};
 ghost use Rattle.newick_grammar.specs.Numbers as numbers;
-ghost use Rattle.newick_grammar.specs.Numbers.{blank};
 ghost use Rattle.newick_outer.specs.Between.{One, Two, EndIs, ParsedIs};
 
-use newick_members::{Cursor, Got, TABLE, ahead, is_at, join, member};
+use newick_labels::NotNewick;
+use newick_members::{Cursor, Member, TABLE, Text, join};
 
-// Whether the whole text is a tree; or the place as above.
-#[derive(Clone, Copy)]
-pub enum Parsed {
-    Whole,
-    Bad(usize),
-}
-
-// The semicolon at a place, and nothing after it.
-fn finish(s: &[u8], at: usize) -> Parsed
-    requires { at ≤ length s.now }
-    ensures { EndIs s.now at result }
+// The semicolon, and nothing after it.
+fn finish(text: &Text, c: Cursor) -> Result<(), NotNewick>
+    ensures { EndIs text.now.bytes.now c.at result }
 {
-    if !is_at(s, at, b';') {
-        return Parsed::Bad(at);
+    let end = text.pass(c, b';')?;
+    if end.at < text.bytes.len() {
+        return Err(NotNewick { at: end.at });
     }
-    if at + 1 < s.len() {
-        return Parsed::Bad(at + 1);
-    }
-    Parsed::Whole
+    Ok(())
 }
 
 // One row joins the nodes x and y, and takes the smaller number.
@@ -39,93 +29,62 @@ fn join_both(table: &mut [u8; TABLE], x: usize, y: usize)
     ensures { let t = table.old in
         table.new ≡ numbers.join (numbers.smaller x y) (numbers.larger x y) t }
 {
-    if x < y {
-        join(table, x, y);
-        return;
-    }
-    join(table, y, x);
+    join(table, x.min(y), x.max(y));
 }
 
-// The third outermost member, after the nodes x and y, and the end of the
-// text. The outermost group is the last node.
-fn third(s: &[u8], n: usize, c: Cursor, x: usize, y: usize, table: &mut [u8; TABLE]) -> Parsed
-    requires { Two n s.now table.old c x y × (size n c.used < n) }
-    ensures { ParsedIs n s.now table.new result }
+// The third outermost member, after the node x and the member y, and the end of
+// the text. The outermost group is the last node.
+fn third(text: &Text, x: usize, y: Member, table: &mut [u8; TABLE]) -> Result<(), NotNewick>
+    requires { let s = text.now.bytes.now in
+        Two text.now.n s table.old y.after x y.node × (size text.now.n y.after.used < text.now.n) }
+    ensures { ParsedIs text.now.n text.now.bytes.now table.new result }
 {
-    let at = c.at;
-    if !is_at(s, at, b',') {
-        return Parsed::Bad(at);
-    }
-    match member(s, n, ahead(c), 0, false, table) {
-        Got::Bad(q) => Parsed::Bad(q),
-        Got::Node(d, z) => {
-            let end = d.at;
-            if !is_at(s, end, b')') {
-                return Parsed::Bad(end);
-            }
-            let p = d.next;
-            join(table, x, p);
-            join(table, y, p);
-            join(table, z, p);
-            finish(s, end + 1)
-        }
-    }
+    let c = text.pass(y.after, b',')?;
+    let z = text.member(c, 0, false, table)?;
+    let end = text.pass(z.after, b')')?;
+    join(table, x, end.next);
+    join(table, y.node, end.next);
+    join(table, z.node, end.next);
+    finish(text, end)
 }
 
-// What follows two outermost members, the nodes x and y: the end of the text
-// where they have all taxa, and the outermost group is no node then; otherwise
-// a third member.
-fn after_two(s: &[u8], n: usize, c: Cursor, x: usize, y: usize, table: &mut [u8; TABLE]) -> Parsed
-    requires { Two n s.now table.old c x y }
-    ensures { ParsedIs n s.now table.new result }
+// What follows two outermost members, the node x and the member y: the end of
+// the text where they have all taxa, and the outermost group is no node then;
+// otherwise a third member.
+fn after_two(text: &Text, x: usize, y: Member, table: &mut [u8; TABLE]) -> Result<(), NotNewick>
+    requires { Two text.now.n text.now.bytes.now table.old y.after x y.node }
+    ensures { ParsedIs text.now.n text.now.bytes.now table.new result }
 {
-    if taxa::size(c.used) != n {
-        return third(s, n, c, x, y, table);
+    if taxa::size(y.after.used) != text.n {
+        return third(text, x, y, table);
     }
-    let at = c.at;
-    if !is_at(s, at, b')') {
-        return Parsed::Bad(at);
-    }
-    join_both(table, x, y);
-    finish(s, at + 1)
+    let end = text.pass(y.after, b')')?;
+    join_both(table, x, y.node);
+    finish(text, end)
 }
 
-// What follows the first outermost member, the node x.
-fn after_one(s: &[u8], n: usize, c: Cursor, x: usize, table: &mut [u8; TABLE]) -> Parsed
-    requires { One n s.now table.old c x }
-    ensures { ParsedIs n s.now table.new result }
+// What follows the first outermost member.
+fn after_one(text: &Text, x: Member, table: &mut [u8; TABLE]) -> Result<(), NotNewick>
+    requires { One text.now.n text.now.bytes.now table.old x.after x.node }
+    ensures { ParsedIs text.now.n text.now.bytes.now table.new result }
 {
-    let at = c.at;
-    if !is_at(s, at, b',') {
-        return Parsed::Bad(at);
-    }
-    match member(s, n, ahead(c), 0, true, table) {
-        Got::Bad(p) => Parsed::Bad(p),
-        Got::Node(d, y) => after_two(s, n, d, x, y, table),
-    }
+    let c = text.pass(x.after, b',')?;
+    let y = text.member(c, 0, true, table)?;
+    after_two(text, x.node, y, table)
 }
 
 // The tree that a text is, its rows written into a blank table.
-pub fn outermost(s: &[u8], n: usize, table: &mut [u8; TABLE]) -> Parsed
-    requires { (4 ≤ n) × (n ≤ most) × (table.old ≡ blank most) }
-    ensures { ParsedIs n s.now table.new result }
+pub fn outermost(text: &[u8], n: usize, table: &mut [u8; TABLE]) -> Result<(), NotNewick>
+    requires { (4 ≤ n) × (n ≤ most) × (table.old ≡ numbers.blank most) }
+    ensures { ParsedIs n text.now table.new result }
 {
-    if !is_at(s, 0, b'(') {
-        return Parsed::Bad(0);
-    }
-    match member(
-        s,
-        n,
-        Cursor {
-            at: 1,
-            next: n,
-            used: 0,
-        },
-        1,
-        true,
-        table,
-    ) {
-        Got::Bad(p) => Parsed::Bad(p),
-        Got::Node(c, x) => after_one(s, n, c, x, table),
-    }
+    let whole = Text { bytes: text, n };
+    let start = Cursor {
+        at: 0,
+        next: n,
+        used: 0,
+    };
+    let c = whole.pass(start, b'(')?;
+    let x = whole.member(c, 1, true, table)?;
+    after_one(&whole, x, table)
 }

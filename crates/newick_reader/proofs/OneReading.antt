@@ -1,5 +1,6 @@
 -- One answer and one state of the lent table: a text has one tree at most, and
 -- a text that is none has one place. Assumes nothing.
+use Rattle.std.specs.Prelude.{Result, Ok, Err}
 use mathlib.Core.Path.{◌≡◌, refl, sym, ap, ap₂, ◌∙◌, subst}
 use mathlib.Core.Logic.{◌↔◌}
 use mathlib.Core.Bool.{false}
@@ -20,8 +21,8 @@ use Rattle.newick_grammar.specs.Numbers.{table}
 use Rattle.newick_grammar.proofs.Labels.{Below}
 use Rattle.newick_grammar.proofs.Low.{low-some}
 use Rattle.newick_grammar.proofs.Valid.{table-valid}
-use Rattle.newick_reader.specs.declared.Reading.{Reading}
-use Rattle.newick_reader.specs.declared.Reading.TheVariants as reading
+use Rattle.newick_reader.specs.declared.Unread.{Unread}
+use Rattle.newick_reader.specs.declared.Unread.TheVariants as unread
 use Rattle.calls.specs.Calls.{Said, gives, refuses_at}
 use Rattle.newick_reader.specs.Promises.{Right, Reads, of_count, of_text, of_room, of_tree}
 use Rattle.newick_reader.specs.Promises.{reading_says}
@@ -139,36 +140,25 @@ reads_one n s room h k (of_tree r o a l e) (of_tree x q b m f) =
     ∙ sym f
 
 -- ---- an answer is settled by what it says
-pub reading_one : (a b : Reading) → reading_says a ≡ reading_says b → a ≡ b
-reading_one reading.Table reading.Table h = refl
-reading_one reading.Table (reading.Refused r) h = absurd
-    (let z : ◌≡◌ {A = ℕ} 0 1 = cc in omega arith)
-reading_one reading.Table (reading.RefusedAt r p) h = absurd
-    (let z : ◌≡◌ {A = ℕ} 0 1 = cc in omega arith)
-reading_one (reading.Refused r) reading.Table h = absurd
-    (let z : ◌≡◌ {A = ℕ} 0 1 = cc in omega arith)
-reading_one (reading.Refused r) (reading.Refused q) h = let e : r ≡ q = cc in ap reading.Refused
-    e
-reading_one (reading.Refused r) (reading.RefusedAt q p) h = absurd
-    (let z : ◌≡◌ {A = ℕ} 0 1 = cc in omega arith)
-reading_one (reading.RefusedAt r p) reading.Table h = absurd
-    (let z : ◌≡◌ {A = ℕ} 0 1 = cc in omega arith)
-reading_one (reading.RefusedAt r p) (reading.Refused q) h = absurd
-    (let z : ◌≡◌ {A = ℕ} 0 1 = cc in omega arith)
-reading_one (reading.RefusedAt r p) (reading.RefusedAt q x) h =
-    let e : r ≡ q = cc in
-    let f : p ≡ x = cc in
-    ap₂ reading.RefusedAt e f
+pub reading_one : (a b : Result (Unit {0}) Unread) → reading_says a ≡ reading_says b → a ≡ b
+reading_one (Ok a) (Ok b) h = refl
+reading_one (Ok a) (Err (unread.Refused q)) h = cc
+reading_one (Ok a) (Err (unread.NotNewick f)) h = cc
+reading_one (Err (unread.Refused r)) (Ok b) h = cc
+reading_one (Err (unread.Refused r)) (Err (unread.Refused q)) h = cc
+reading_one (Err (unread.Refused r)) (Err (unread.NotNewick f)) h = cc
+reading_one (Err (unread.NotNewick e)) (Ok b) h = cc
+reading_one (Err (unread.NotNewick e)) (Err (unread.Refused q)) h = cc
+reading_one (Err (unread.NotNewick e)) (Err (unread.NotNewick f)) h =
+    let p : e.at ≡ f.at = cc in
+    ap (λ (p : ℕ). Err (unread.NotNewick (record { at = p }))) p
 
 -- ---- the table that is given is valid, and is given for trees alone
 pub reads_valid : (n : ℕ) (s : List ℕ) (room : ℕ) (t : List ℕ)
     → Reads n s room (gives t) → Accepted n t
-reads_valid n s room t (of_count a e) = absurd
-    (let z : ◌≡◌ {A = ℕ} 0 1 = cc in omega arith)
-reads_valid n s room t (of_text r p a e) = absurd
-    (let z : ◌≡◌ {A = ℕ} 0 1 = cc in omega arith)
-reads_valid n s room t (of_room r a l e) = absurd
-    (let z : ◌≡◌ {A = ℕ} 0 1 = cc in omega arith)
+reads_valid n s room t (of_count a e) = cc
+reads_valid n s room t (of_text r p a e) = cc
+reads_valid n s room t (of_room r a l e) = cc
 reads_valid n s room t (of_tree r o a l e) =
     let f : t ≡ table n o = cc in
     let v : Valid n t = subst (λ (u : List ℕ). Valid n u) (sym f)

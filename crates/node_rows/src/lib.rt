@@ -8,6 +8,7 @@ ghost use Rattle.tree.specs.Tree.{nodes};
 ghost use Rattle.node_rows.specs.Between.{OtherTwo};
 
 // Four places for each of the most nodes that a tree has.
+// Kept: one flat array with a mark for free, as `OtherTwo`, `Near` and `Inward` promise of it.
 pub const PLACES: usize = 504;
 
 // A place that holds nothing.
@@ -24,10 +25,10 @@ pub struct Two {
 fn lower_first(x: usize, y: usize) -> Two
     ensures { (result.f ≡ pick (ltb x y) x y) × (result.g ≡ pick (ltb x y) y x) }
 {
-    if x < y {
-        return Two { f: x, g: y };
+    Two {
+        f: x.min(y),
+        g: x.max(y),
     }
-    Two { f: y, g: x }
 }
 
 // The two rows at node v other than e, the lower one first.

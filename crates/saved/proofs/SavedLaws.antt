@@ -2,18 +2,17 @@
 -- are the same. The width in which taxa are counted does not matter. Of two
 -- trees those saved are those unchanged of four or more taxa, and the others
 -- that are unchanged are all of fewer. Assumes nothing.
-use mathlib.Core.Path.{◌≡◌, refl, sym, ap, ap₂}
+use mathlib.Core.Path.{◌≡◌, refl, ap₂}
 use mathlib.Core.Bool.{Bool, true, false, not, ◌&&◌, and-true}
+use Rattle.std.proofs.Common.{cond}
+use Rattle.std.specs.List.{filter, zip}
 use mathlib.Core.List.{List, [], ◌∷◌}
 use Prim.Native.Nat.{ℕ, ◌+◌, ◌^◌, ◌≤◌, ◌<◌, zero-le}
 use native.Mathlib.Nat.{add-le-add}
 use native.Mathlib.Omega.{arith}
-use native.Mathlib.Numerals.{add-one}
 use lib.Dec.{eqb, ltb, leb}
-use lib.ListN.{length, drop, get_or}
-use lib.Seq.{drop-cons, drop-length}
-use mir.Val.{bool_byte}
-use borrow.Author.Tests.{ltb-true, leb-false, ne_eqb, eq-eqb}
+use lib.ListN.{length}
+use borrow.Author.Tests.{ltb-true, leb-false, eq-eqb}
 use Rattle.taxa.specs.Sets.{pick, tally, size}
 use Rattle.taxa.proofs.Bools.{and_left, and_right, and_false_r}
 use Rattle.taxa.proofs.Sets.{has_below}
@@ -27,19 +26,6 @@ use Rattle.group_rule.proofs.Judging.{zeros_le}
 use Rattle.saved.specs.Saved.{four_or_more, counts_as_saved, saved_of, of_four_or_more, how_many_fewer}
 
 -- ---- one partition
-pub changed_not_counted : (n y d : ℕ) → (d ≡ 0 → ⊥)
-    → false ≡ counts_as_saved n y d
-unfolding counts_as_saved
-changed_not_counted n y d h =
-    sym (ap (λ (b : Bool). b && four_or_more n y) (ne_eqb d 0 h))
-
-pub same_counted_four : (n y d : ℕ) {r : ℕ} → d ≡ 0 → r ≡ size n y
-    → leb 4 r ≡ counts_as_saved n y d
-unfolding counts_as_saved four_or_more
-same_counted_four n y d h e = rw (e, eq-eqb d 0 h)
-
--- both, for the code
-pub ruleset one_counted = (changed_not_counted, same_counted_four)
 
 -- what counts as saved has distance 0
 counted_same : (n y d : ℕ) → counts_as_saved n y d ≡ true → eqb d 0 ≡ true
@@ -79,23 +65,21 @@ saved_wide n w (y ∷ ys) (d ∷ ds) h right =
     (counted-wide n w y d h (ltb-true y (2 ^ n) (and_left p q right)))
     (saved_wide n w ys ds h (and_right p q right))
 
--- ---- r partitions are saved before place i, all in all: the one there, and none
--- left at the end
-module _ (n : ℕ) (ys ds : List ℕ) (i r : ℕ) {all : ℕ} (even : length ys ≡ length ds)
-    (saved : r + saved_of n (drop i ys) (drop i ds) ≡ all)
+-- They are those that are picked among the partitions with their distances.
+pub saved_zip : (n : ℕ) (ys ds : List ℕ)
+    → length (filter (λ p. counts_as_saved n p.0 p.1) (zip ys ds)) ≡ saved_of n ys ds
+unfolding saved_of
+saved_zip n [] ds = refl
+saved_zip n (y ∷ ys) [] = refl
+saved_zip n (y ∷ ys) (d ∷ ds) = go (saved_zip n ys ds) (counts_as_saved n y d)
   where
-    pub saved_more : (b : Bool) → b ≡ counts_as_saved n (get_or ys i 0) (get_or ds i 0) → i < length ds
-        → r + bool_byte b + saved_of n (drop (i + 1) ys) (drop (i + 1) ds) ≡ all
-    unfolding saved_of
-    saved_more b e l =
-        let k = rw (drop-cons ys i 0 (omega arith), drop-cons ds i 0 l) at saved in
-        rw (add-one, e) (omega (arith, k))
+    l : List (ℕ × ℕ)
+    l = filter (λ p. counts_as_saved n p.0 p.1) (zip ys ds)
 
-    pub saved_all : i ≤ length ds → length ds ≤ i → r ≡ all
-    unfolding saved_of
-    saved_all l m =
-        let e : i ≡ length ys = omega arith in
-        omega (arith, rw (e, drop-length) at saved)
+    go : length l ≡ saved_of n ys ds → (b : Bool)
+        → length (cond b ((y, d) ∷ l) l) ≡ tally b + saved_of n ys ds
+    go e true = omega (arith, e)
+    go e false = omega (arith, e)
 
 -- ---- the distances of two trees
 -- those saved are those unchanged of the partitions of four or more taxa

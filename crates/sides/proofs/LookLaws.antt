@@ -2,16 +2,15 @@
 use mathlib.Core.Path.{◌≡◌, sym, ap, ◌∙◌}
 use mathlib.Core.Bool.{Bool, true, false}
 use mathlib.Core.List.{List, [], ◌++◌}
+use Rattle.std.specs.Prelude.{Result, Ok, Err}
 use Prim.Native.Nat.{ℕ}
 use native.Mathlib.Omega.{arith}
 use Rattle.tree.specs.Tree.{nodes, from_zero, every}
-use Rattle.calls.specs.Calls.{gives, refuses, judged}
+use Rattle.calls.specs.Calls.{gives, refuses, judged, says}
 use Rattle.tree.specs.Refusals.{count_checks, row_checks, reach_checks, tree_checks, tree_said, Accepted}
 use Rattle.calls.proofs.CheckLaws.{judged_pass, judged-next, judged_fail, gives_pass, refuses_more}
 use Rattle.tree.proofs.RefusalLaws.{pass_accepted}
-use Rattle.table.specs.Says.{check_says}
 use Rattle.table.specs.Between.{row_said, Rowed}
-use Rattle.table.specs.declared.Checked.{Checked}
 use Rattle.table.proofs.Stages.{said_rowed}
 use Rattle.calls.specs.declared.Refusal.{Refusal}
 use Rattle.inward.specs.Between.{Inward, Arranged}
@@ -38,48 +37,48 @@ module _ (n : ℕ) (t : List ℕ) where
   not_tree k h g = absurd (let z : ◌≡◌ {A = ℕ} 0 1 = cc in omega arith)
 
 -- ---- what is found; c is what the checks 1 to 4 answer
-rows_right : (n : ℕ) (t : List ℕ) {c : Checked} → check_says c ≡ row_said n t → c ≡ Checked.Tree
+rows_right : (n : ℕ) (t : List ℕ) {c : Result (Unit {0}) Refusal} → says c ≡ row_said n t → c ≡ Ok tt
     → row_said n t ≡ gives tt
-rows_right n t e h = sym e ∙ ap check_says h
+rows_right n t e h = sym e ∙ ap says h
 
-pub found_rowed : {n : ℕ} {t : List ℕ} {c : Checked} → check_says c ≡ row_said n t
-    → c ≡ Checked.Tree → Rowed n t
+pub found_rowed : {n : ℕ} {t : List ℕ} {c : Result (Unit {0}) Refusal} → says c ≡ row_said n t
+    → c ≡ Ok tt → Rowed n t
 found_rowed {n} {t} e h = said_rowed n t (rows_right n t e h)
 
 -- at each return of the search for an order
-module _ {n : ℕ} {t : List ℕ} {c : Checked} (rows-say : check_says c ≡ row_said n t)
+module _ {n : ℕ} {t : List ℕ} {c : Result (Unit {0}) Refusal} (rows-say : says c ≡ row_said n t)
     {a : List ℕ} where
-  pub arranges_rows : {k : Refusal} → c ≡ Checked.Refused k → Arranges n t (Checked.Refused k) a
+  pub arranges_rows : {k : Refusal} → c ≡ Err k → Arranges n t (Err k) a
   arranges_rows {k} h =
-      let said : row_said n t ≡ refuses k = sym rows-say ∙ ap check_says h in
+      let said : row_said n t ≡ refuses k = sym rows-say ∙ ap says h in
       let e : refuses k ≡ tree_said n t =
       sym (refuses_more (count_checks n ++ row_checks n t) (reach_checks n t) tt tt k said) in
       record { says = e; inward = not_tree n t k e }
 
-  module _ (h : c ≡ Checked.Tree) {b : Bool} (A : Arranged n t b a) where
-    pub arranges_tree : b ≡ true → Arranges n t Checked.Tree a
+  module _ (h : c ≡ Ok tt) {b : Bool} (A : Arranged n t b a) where
+    pub arranges_tree : b ≡ true → Arranges n t (Ok tt) a
     arranges_tree w =
         record {
           says = is_tree n t (rows_right n t rows-say h) (sym A.all ∙ w);
           inward = λ g. A.inward w;
         }
 
-    pub arranges_5 : b ≡ false → Arranges n t (Checked.Refused Refusal.Unreached) a
+    pub arranges_5 : b ≡ false → Arranges n t (Err Refusal.Unreached) a
     arranges_5 w =
         let e = is_5 n t (rows_right n t rows-say h) (sym A.all ∙ w) in
         record { says = e; inward = not_tree n t _ e }
 
 -- at each return of the look
-module _ {n : ℕ} {t : List ℕ} {c : Checked} {a : List ℕ} (R : Arranges n t c a) where
-  pub found_refusal : {s : List ℕ} {k : Refusal} → c ≡ Checked.Refused k
-      → Found n t (Checked.Refused k) a s
+module _ {n : ℕ} {t : List ℕ} {c : Result (Unit {0}) Refusal} {a : List ℕ} (R : Arranges n t c a) where
+  pub found_refusal : {s : List ℕ} {k : Refusal} → c ≡ Err k
+      → Found n t (Err k) a s
   found_refusal {k = k} h =
-      let e : refuses k ≡ tree_said n t = ap check_says (sym h) ∙ R.says in
+      let e : refuses k ≡ tree_said n t = ap says (sym h) ∙ R.says in
       record { sighted = record { says = e; sides = not_tree n t k e }; near = not_tree n t k e }
 
-  module _ (h : c ≡ Checked.Tree) where
+  module _ (h : c ≡ Ok tt) where
     tree_said_lem : gives tt ≡ tree_said n t
-    tree_said_lem = ap check_says (sym h) ∙ R.says
+    tree_said_lem = ap says (sym h) ∙ R.says
 
     pub tree_inward : Inward n t a
     tree_inward = R.inward (sym tree_said_lem)
@@ -87,7 +86,7 @@ module _ {n : ℕ} {t : List ℕ} {c : Checked} {a : List ℕ} (R : Arranges n t
     pub tree_accepted : Accepted n t
     tree_accepted = pass_accepted n t (gives_pass (tree_checks n t) tt tt (sym tree_said_lem))
 
-    pub found_tree : {s : List ℕ} → Sides n t s → Found n t Checked.Tree a s
+    pub found_tree : {s : List ℕ} → Sides n t s → Found n t (Ok tt) a s
     found_tree S =
         record {
           sighted = record { says = tree_said_lem; sides = λ g. S };
@@ -108,29 +107,29 @@ accepted_rowed a = record {
 }
 
 -- what an answer of the check tells
-module _ {n : ℕ} {t : List ℕ} {c : Checked} {s : List ℕ} (f : Sighted n t c s) where
+module _ {n : ℕ} {t : List ℕ} {c : Result (Unit {0}) Refusal} {s : List ℕ} (f : Sighted n t c s) where
   pub sighted-given : tree_said n t ≡ gives tt → Sided n t s
   sighted-given g = record {
     good = pass_accepted n t (gives_pass (tree_checks n t) tt tt g);
     sides = f.sides g;
   }
 
-  pub sighted_sided : c ≡ Checked.Tree → Sided n t s
-  sighted_sided e = sighted-given (sym f.says ∙ ap check_says e)
+  pub sighted_sided : c ≡ Ok tt → Sided n t s
+  sighted_sided e = sighted-given (sym f.says ∙ ap says e)
 
-  pub sighted-refused : {r : Refusal} → c ≡ Checked.Refused r → tree_said n t ≡ refuses r
-  sighted-refused e = sym f.says ∙ ap check_says e
+  pub sighted-refused : {r : Refusal} → c ≡ Err r → tree_said n t ≡ refuses r
+  sighted-refused e = sym f.says ∙ ap says e
 
-module _ {n : ℕ} {t : List ℕ} {c : Checked} {near s : List ℕ} (f : Found n t c near s) where
+module _ {n : ℕ} {t : List ℕ} {c : Result (Unit {0}) Refusal} {near s : List ℕ} (f : Found n t c near s) where
   pub found-given : tree_said n t ≡ gives tt → Looked n t near s
   found-given g =
       let S = sighted-given f.sighted g in
       record { good = S.good; rows = f.near g; sides = S.sides }
 
-  pub found-looked : c ≡ Checked.Tree → Looked n t near s
-  found-looked e = found-given (sym f.sighted.says ∙ ap check_says e)
+  pub found-looked : c ≡ Ok tt → Looked n t near s
+  found-looked e = found-given (sym f.sighted.says ∙ ap says e)
 
-  pub found-refused : {r : Refusal} → c ≡ Checked.Refused r → tree_said n t ≡ refuses r
+  pub found-refused : {r : Refusal} → c ≡ Err r → tree_said n t ≡ refuses r
   found-refused = sighted-refused f.sighted
 
 -- a tree that was looked at has its sides

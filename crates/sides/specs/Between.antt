@@ -1,14 +1,14 @@
 -- What only stands between the functions: the sides of rows, and how they are
 -- gathered along an order of the inner nodes.
-use Rattle.std.specs.Prelude.{ℕ, ◌≤◌, ◌<◌, ◌≡◌, true, List, eqb, length, get_or}
+use Rattle.std.specs.Prelude.{ℕ, ◌≤◌, ◌<◌, ◌≡◌, true, List, eqb, length, get_or, Result}
 use Rattle.taxa.specs.Most.{most}
 use Rattle.taxa.specs.Sets.{less, full, pick}
 use Rattle.tree.specs.Tree.{lo, rows, nodes, touches}
 use Rattle.tree.specs.Splits.{side}
 use Rattle.tree.specs.Refusals.{Accepted, tree_said}
+use Rattle.calls.specs.declared.Refusal.{Refusal}
+use Rattle.calls.specs.Calls as calls
 use Rattle.calls.specs.Calls.{gives}
-use Rattle.table.specs.Says.{check_says}
-use Rattle.table.specs.declared.Checked.{Checked}
 use Rattle.node_rows.specs.Between.{up, first, second, Meet, Near}
 use Rattle.inward.specs.Between.{Inward}
 
@@ -59,16 +59,16 @@ pub record Behind (n : ℕ) (t a s : List ℕ) (v : ℕ) : Type 0 where
 
 -- the answer is the tree's, and where it is a tree the array holds an order of
 -- its inner nodes
-pub record Arranges (n : ℕ) (t : List ℕ) (c : Checked) (a : List ℕ) : Type 0 where
-  pub says : check_says c ≡ tree_said n t
+pub record Arranges (n : ℕ) (t : List ℕ) (c : Result (Unit {0}) Refusal) (a : List ℕ) : Type 0 where
+  pub says : calls.says c ≡ tree_said n t
   pub inward : tree_said n t ≡ gives tt → Inward n t a
 
 -- the answer is the tree's, and where it is a tree s holds its sides
-pub record Sighted (n : ℕ) (t : List ℕ) (c : Checked) (s : List ℕ) : Type 0 where
-  pub says : check_says c ≡ tree_said n t
+pub record Sighted (n : ℕ) (t : List ℕ) (c : Result (Unit {0}) Refusal) (s : List ℕ) : Type 0 where
+  pub says : calls.says c ≡ tree_said n t
   pub sides : tree_said n t ≡ gives tt → Sides n t s
 
 -- the same, with the rows at each node
-pub record Found (n : ℕ) (t : List ℕ) (c : Checked) (a s : List ℕ) : Type 0 where
+pub record Found (n : ℕ) (t : List ℕ) (c : Result (Unit {0}) Refusal) (a s : List ℕ) : Type 0 where
   pub sighted : Sighted n t c s
   pub near : tree_said n t ≡ gives tt → Near n t a

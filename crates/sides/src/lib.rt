@@ -15,7 +15,6 @@ ghost use Rattle.sides.specs.Between.{noted, Found, Sighted};
 ghost use Rattle.sides.specs.Promises.{Checks};
 
 use calls::Refusal;
-use table::Checked;
 
 // The most rows that a tree has.
 pub const ROWS: usize = 125;
@@ -34,6 +33,7 @@ fn note(n: usize, t: &[u8], sides: &mut [u64; ROWS], e: usize, v: usize, s: u64)
 }
 
 // The taxa with the end of row x that is not v, s being its side.
+#[tactic(auto, using(crate::proofs::FillLaws::across_lo, crate::proofs::FillLaws::across_hi))]
 pub fn across(n: usize, t: &[u8], x: usize, v: usize, s: u64) -> u64
     requires { let t = t.now in (At n t x v) × (s ≡ side n t x) }
     ensures { let t = t.entry.now in result ≡ part n t x (far t x v) % 2 ^ n }
@@ -50,19 +50,17 @@ fn taxa_sides(n: usize, t: &[u8], s: &mut [u64; ROWS])
     requires { (Accepted n t.now) × (length s.old ≡ rows most) }
     ensures { AtTaxa n t.now s.new (rows n) }
 {
-    let m = 2 * n - 3;
-    let mut i: usize = 0;
-    while i < m {
-        let v = table::lo(t, i);
+    for r in 0..2 * n - 3 {
+        let v = table::lo(t, r);
         if v < n {
-            s[i] = taxa::only(v);
+            s[r] = taxa::only(v);
         }
-        i += 1;
     }
 }
 
 // Stores the side of the row that leads on from the inner node v, from those
 // of the two rows behind it.
+#[tactic(auto, using(crate::proofs::FillLaws::gathered_here))]
 fn gather_at(n: usize, t: &[u8], near: &[u8; node_rows::PLACES], s: &mut [u64; ROWS], v: usize)
     requires { Behind n t.now near.now s.old v }
     ensures { let r = up near.now v in
@@ -83,30 +81,22 @@ fn gather(n: usize, t: &[u8], near: &[u8; node_rows::PLACES], s: &mut [u64; ROWS
         (Accepted n t) × (Inward n t near.now) × (AtTaxa n t s.old (rows n)) }
     ensures { Sides n t.now s.new }
 {
-    let m = n - 2;
-    let mut j: usize = 0;
-    while j < m {
+    for j in 0..n - 2 {
         let v = near[4 * j + 3] as usize;
         gather_at(n, t, near, s, v);
-        j += 1;
     }
 }
 
 // The check of a tree; an order of its inner nodes is left in the lent array.
-fn arrange(n: usize, t: &[u8], near: &mut [u8; node_rows::PLACES]) -> Checked
+fn arrange(n: usize, t: &[u8], near: &mut [u8; node_rows::PLACES]) -> Result<(), Refusal>
     requires { near.old ≡ no_rows }
     ensures { Arranges n t.now result near.new }
 {
-    let answer = table::check_rows(n, t);
-    match answer {
-        Checked::Refused(r) => Checked::Refused(r),
-        Checked::Tree => {
-            if inward::order(n, t, near) {
-                return Checked::Tree;
-            }
-            Checked::Refused(Refusal::Unreached)
-        }
+    table::check_rows(n, t)?;
+    if inward::order(n, t, near) {
+        return Ok(());
     }
+    Err(Refusal::Unreached)
 }
 
 // The check of a tree; the rows at each node and the side of every row of one
@@ -116,23 +106,18 @@ pub fn look(
     t: &[u8],
     near: &mut [u8; node_rows::PLACES],
     sides: &mut [u64; ROWS],
-) -> Checked
+) -> Result<(), Refusal>
     requires { (near.old ≡ no_rows) × (length sides.old ≡ rows most) }
     ensures { Found n t.now result near.new sides.new }
 {
-    let answer = arrange(n, t, near);
-    match answer {
-        Checked::Refused(r) => Checked::Refused(r),
-        Checked::Tree => {
-            taxa_sides(n, t, sides);
-            gather(n, t, near, sides);
-            Checked::Tree
-        }
-    }
+    arrange(n, t, near)?;
+    taxa_sides(n, t, sides);
+    gather(n, t, near, sides);
+    Ok(())
 }
 
 // The check of a tree; the side of every row of one is left in the lent array.
-pub fn find_sides(n: usize, t: &[u8], sides: &mut [u64; ROWS]) -> Checked
+pub fn find_sides(n: usize, t: &[u8], sides: &mut [u64; ROWS]) -> Result<(), Refusal>
     requires { length sides.old ≡ rows most }
     ensures { Sighted n t.now result sides.new }
 {
@@ -141,7 +126,7 @@ pub fn find_sides(n: usize, t: &[u8], sides: &mut [u64; ROWS]) -> Checked
 }
 
 // The check of a tree: refusals 1 to 5.
-pub fn check_tree(n: usize, t: &[u8]) -> Checked
+pub fn check_tree(n: usize, t: &[u8]) -> Result<(), Refusal>
     ensures { Checks n t.now result }
 {
     let mut near = [node_rows::FREE; node_rows::PLACES];

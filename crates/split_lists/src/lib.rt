@@ -11,7 +11,10 @@ ghost use Rattle.calls.specs.Between.{Wrote};
 ghost use Rattle.ascending.specs.Between.{RoomFor};
 ghost use Rattle.split_lists.specs.Between.{added, row_splits};
 
+use std::cmp::Ordering;
+
 // The number of the split over y that s makes; low is the lowest taxon of y.
+// Kept: 0 for none, as the definition `split` has it, which the theorems of demands rest on.
 fn number(low: usize, y: u64, s: u64) -> u64
     requires { (low ≡ lowest most y) × (low < most) }
     ensures { result ≡ spec.split most y s }
@@ -20,19 +23,16 @@ fn number(low: usize, y: u64, s: u64) -> u64
     let outside = taxa::less(y, s);
     let own = taxa::size(inside);
     let other = taxa::size(outside);
-    if own < other {
-        return inside;
+    match own.cmp(&other) {
+        Ordering::Less => inside,
+        Ordering::Greater => outside,
+        Ordering::Equal if taxa::has(s, low) => outside,
+        Ordering::Equal => inside,
     }
-    if other < own {
-        return outside;
-    }
-    if taxa::has(s, low) {
-        return outside;
-    }
-    inside
 }
 
 // Puts the number x into the first len of out, unless it is 0; the new count.
+// Kept: out and len stand apart, as in `ascending::insert`.
 fn add(out: &mut [u64], len: usize, x: u64) -> usize
     requires { let o = out.old in (len ≤ length o) × (RoomFor (added x (take len o)) o) }
     ensures { let o = out.old in Wrote length (added x (take len o)) o result out.new }
@@ -53,13 +53,10 @@ fn list(n: usize, sides: &[u64; sides::ROWS], y: u64, out: &mut [u64]) -> usize
         return 0;
     }
     let low = taxa::lowest(y);
-    let m = 2 * n - 3;
-    let mut len: usize = 0;
-    let mut i: usize = 0;
-    while i < m {
-        let x = number(low, y, sides[i]);
+    let mut len = 0;
+    for side in &sides[..2 * n - 3] {
+        let x = number(low, y, *side);
         len = add(out, len, x);
-        i += 1;
     }
     len
 }

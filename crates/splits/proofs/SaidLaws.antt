@@ -3,6 +3,7 @@
 use mathlib.Core.Path.{◌≡◌, sym, ap, ap₂, ◌∙◌}
 use mathlib.Core.Bool.{false}
 use mathlib.Core.List.{List, [], ◌++◌}
+use Rattle.std.specs.Prelude.{Result, Ok, Err}
 use Prim.Native.Nat.{ℕ, ◌^◌, ◌≤◌, ◌<◌}
 use native.Mathlib.Omega.{arith}
 use lib.Dec.{ltb}
@@ -17,15 +18,11 @@ use Rattle.tree.specs.Refusals.{count_checks, table_checks, tree_checks, partiti
 use Rattle.tree.specs.Refusals.{tree_said, Accepted}
 use Rattle.tree.proofs.RefusalLaws.{accepted_pass, accepted_iff}
 use Rattle.calls.specs.Between.{Wrote}
-use Rattle.table.specs.declared.Checked.{Checked}
 use Rattle.sides.specs.Between.{Sighted}
 use Rattle.sides.proofs.LookLaws.{sighted-refused}
-use Rattle.splits.specs.declared.Induced.{Induced}
-use Rattle.splits.specs.declared.Induced.TheVariants as induced
-use Rattle.splits.specs.declared.Compared.{Compared}
-use Rattle.splits.specs.declared.Compared.TheVariants as compared
-use Rattle.splits.specs.Promises.{induced_said, induced_says, Induces}
-use Rattle.splits.specs.Promises.{trees_apart, compared_said, compare_says, Compares}
+use Rattle.splits.specs.declared.Apart.{Apart}
+use Rattle.splits.specs.Promises.{induced_said, Induces}
+use Rattle.splits.specs.Promises.{trees_apart, compared_said, apart, compare_says, Compares}
 use Rattle.splits.specs.Between.{lists_apart, Listed}
 use Rattle.splits.proofs.ListLaws.{Within, listed_apart}
 
@@ -45,16 +42,16 @@ module _ (n : ℕ) (t : List ℕ) (y : ℕ) (out : List ℕ) where
   past_6 w = past_5 w.good
       ∙ judged-next (ltb y (2 ^ n)) Refusal.Partition room l w.bound
 
-pub induces_tree : {n : ℕ} {t : List ℕ} (y : ℕ) {out : List ℕ} {c : Checked} {r : Refusal}
-    {s : List ℕ} → Sighted n t c s → c ≡ Checked.Refused r
-    → Induces n t y out (induced.Refused r) out
+pub induces_tree : {n : ℕ} {t : List ℕ} (y : ℕ) {out : List ℕ} {c : Result (Unit {0}) Refusal} {r : Refusal}
+    {s : List ℕ} → Sighted n t c s → c ≡ Err r
+    → Induces n t y out (Err r) out
 induces_tree {n} {t} y {out} {r = r} f e = call-refuses r
     (refuses_more (tree_checks n t) (partition_checks n y ++ room n t y out) tt (splits n t y) r
     (sighted-refused f e))
 
 module _ {n : ℕ} {t : List ℕ} (y : ℕ) {out : List ℕ} where
   pub induces_6 : Accepted n t → ltb y (2 ^ n) ≡ false
-      → Induces n t y out (induced.Refused Refusal.Partition) out
+      → Induces n t y out (Err Refusal.Partition) out
   induces_6 good h =
       call-refuses Refusal.Partition
       (past_5 n t y out good
@@ -62,14 +59,14 @@ module _ {n : ℕ} {t : List ℕ} (y : ℕ) {out : List ℕ} where
 
 module _ {n : ℕ} {t : List ℕ} {y : ℕ} {out : List ℕ} (w : Within n t y) where
   pub induces_11 : length out < length (splits n t y)
-      → Induces n t y out (induced.Refused Refusal.Room) out
+      → Induces n t y out (Err Refusal.Room) out
   induces_11 h =
       call-refuses Refusal.Room
       (past_6 n t y out w ∙ judged_fail _ Refusal.Room [] (splits n t y)
       (lt-leb (length (splits n t y)) (length out) h))
 
   pub induces_list : length (splits n t y) ≤ length out → {r : ℕ} {out' : List ℕ}
-      → Wrote length (splits n t y) out r out' → Induces n t y out (induced.Count r) out'
+      → Wrote length (splits n t y) out r out' → Induces n t y out (Ok r) out'
   unfolding judged
   induces_list h L =
       call-gives (splits n t y)
@@ -92,9 +89,9 @@ module _ (n : ℕ) (t u : List ℕ) (y : ℕ) where
   past-second good good' = past_first good
       ∙ judged_pass (table_checks n u) (partition_checks n y) both (accepted_pass n u good').1
 
-pub compares_first : {n : ℕ} {t : List ℕ} (u : List ℕ) (y : ℕ) {c : Checked} {r : Refusal}
-    {s : List ℕ} → Sighted n t c s → c ≡ Checked.Refused r
-    → Compares n t u y (compared.Refused r)
+pub compares_first : {n : ℕ} {t : List ℕ} (u : List ℕ) (y : ℕ) {c : Result (Unit {0}) Refusal} {r : Refusal}
+    {s : List ℕ} → Sighted n t c s → c ≡ Err r
+    → Compares n t u y (Err r)
 compares_first {n} {t} u y {r = r} f e =
     answers (sym (refuses_more (tree_checks n t) (table_checks n u ++ partition_checks n y) tt
     (both n t u y) r (sighted-refused f e)))
@@ -102,7 +99,7 @@ compares_first {n} {t} u y {r = r} f e =
 module _ {n : ℕ} {t : List ℕ} (u : List ℕ) (y : ℕ) (good : Accepted n t) where
   -- the count n belongs to both trees
   pub compares_second : {r : Refusal} → tree_said n u ≡ refuses r
-      → Compares n t u y (compared.Refused r)
+      → Compares n t u y (Err r)
   compares_second {r} e =
       let count : Pass (count_checks n) = ((accepted_pass n t good).0, tt) in
       let w = sym (judged_pass (count_checks n) (table_checks n u) tt count) ∙ e in
@@ -110,34 +107,26 @@ module _ {n : ℕ} {t : List ℕ} (u : List ℕ) (y : ℕ) (good : Accepted n t)
       ∙ refuses_more (table_checks n u) (partition_checks n y) (tt {0}) (both n t u y) r w))
 
   pub compares_6 : tree_said n u ≡ gives tt → 2 ^ n ≤ y
-      → Compares n t u y (compared.Refused Refusal.Partition)
+      → Compares n t u y (Err Refusal.Partition)
   compares_6 e h = answers (sym (past-second n t u y good ((accepted_iff n u).0 e)
       ∙ judged_fail (ltb y (2 ^ n)) Refusal.Partition [] (both n t u y) (le-ltb y (2 ^ n) h)))
 
 pub compares_lists : {n : ℕ} {t u : List ℕ} {y : ℕ} {a b : List ℕ} → Listed n t y a
-    → Listed n u y b → (r : Compared) → compare_says r ≡ gives (lists_apart a b) → Compares n t u y r
+    → Listed n u y b → (r : Apart) → apart r ≡ lists_apart a b → Compares n t u y (Ok r)
 unfolding judged
 compares_lists {n} {t} {u} {y} k l r e =
-    answers (e ∙ listed_apart k l ∙ sym (past-second n t u y k.good l.good
+    answers (ap gives e ∙ listed_apart k l ∙ sym (past-second n t u y k.good l.good
     ∙ judged-next (ltb y (2 ^ n)) Refusal.Partition [] (both n t u y)
     (lt-ltb y (2 ^ n) k.bound)))
 
--- ---- an answer is settled by what it says
-pub induced_one : (a b : Induced) → induced_says a ≡ induced_says b → a ≡ b
-induced_one (induced.Count j) (induced.Count k) h = let e : j ≡ k = cc in ap induced.Count e
-induced_one (induced.Count j) (induced.Refused r) h =
-    absurd (let z : ◌≡◌ {A = ℕ} 0 1 = cc in omega arith)
-induced_one (induced.Refused r) (induced.Count j) h =
-    absurd (let z : ◌≡◌ {A = ℕ} 0 1 = cc in omega arith)
-induced_one (induced.Refused r) (induced.Refused s) h = let e : r ≡ s = cc in ap induced.Refused e
+-- ---- a comparison is settled by what it says
+abbrev of_two : ℕ → ℕ → Apart
+of_two d x = record { distance = d; missing = x }
 
-pub compared_one : (a b : Compared) → compare_says a ≡ compare_says b → a ≡ b
-compared_one (compared.Apart d x) (compared.Apart e y) h =
-    let w : ◌≡◌ {A = ℕ × ℕ} (d, x) (e, y) = cc in
-    ap₂ compared.Apart (ap (λ (v : ℕ × ℕ). v.0) w) (ap (λ (v : ℕ × ℕ). v.1) w)
-compared_one (compared.Apart d x) (compared.Refused r) h =
-    absurd (let z : ◌≡◌ {A = ℕ} 0 1 = cc in omega arith)
-compared_one (compared.Refused r) (compared.Apart d x) h =
-    absurd (let z : ◌≡◌ {A = ℕ} 0 1 = cc in omega arith)
-compared_one (compared.Refused r) (compared.Refused s) h = let e : r ≡ s = cc in
-    ap compared.Refused e
+pub compared_one : (a b : Result Apart Refusal) → compare_says a ≡ compare_says b → a ≡ b
+compared_one (Ok a) (Ok b) h =
+    let w : ◌≡◌ {A = ℕ × ℕ} (apart a) (apart b) = cc in
+    ap Ok (ap₂ of_two (ap (λ (v : ℕ × ℕ). v.0) w) (ap (λ (v : ℕ × ℕ). v.1) w))
+compared_one (Ok a) (Err r) h = absurd (let z : ◌≡◌ {A = ℕ} 0 1 = cc in omega arith)
+compared_one (Err r) (Ok a) h = absurd (let z : ◌≡◌ {A = ℕ} 0 1 = cc in omega arith)
+compared_one (Err r) (Err s) h = let e : r ≡ s = cc in ap Err e

@@ -1,13 +1,11 @@
 -- What the two calls say and promise, for every input.
-use Rattle.std.specs.Prelude.{ℕ, List, ◌++◌, length}
-use Rattle.calls.specs.Calls.{Said, gives, refuses, judged, Call, Answers, tells, as_said, at_start}
+use Rattle.std.specs.Prelude.{ℕ, List, ◌++◌, length, Result}
+use Rattle.calls.specs.declared.Refusal.{Refusal}
+use Rattle.calls.specs.Calls.{Said, judged, Call, Answers, tells, as_said, at_start, says}
 use Rattle.tree.specs.Editions.{Edition, narrow}
 use Rattle.tree.specs.Splits.{splits, dist, missing}
 use Rattle.tree.specs.Refusals.{tree_checks_of, table_checks_of, partition_checks, room_checks}
-use Rattle.splits.specs.declared.Induced.{Induced}
-use Rattle.splits.specs.declared.Induced.TheVariants as induced
-use Rattle.splits.specs.declared.Compared.{Compared}
-use Rattle.splits.specs.declared.Compared.TheVariants as compared
+use Rattle.splits.specs.declared.Apart.{Apart}
 
 -- ---- the induced splits
 
@@ -21,15 +19,10 @@ induced_said_of E n b y room =
 abbrev pub induced_said : ℕ → List ℕ → ℕ → ℕ → Said (List ℕ)
 induced_said = induced_said_of narrow
 
--- What each answer says.
-abbrev pub induced_says : Induced → Said ℕ
-induced_says (induced.Count k) = gives k
-induced_says (induced.Refused r) = refuses r
-
 -- The promise: how many there are, and the list at the start of the lent one.
-abbrev pub Induces : ℕ → List ℕ → ℕ → List ℕ → Induced → List ℕ → Type 0
+abbrev pub Induces : ℕ → List ℕ → ℕ → List ℕ → Result ℕ Refusal → List ℕ → Type 0
 Induces n t y out r out' =
-    Call (tells length) at_start (induced_said n t y (length out)) out (induced_says r) out'
+    Call (tells length) at_start (induced_said n t y (length out)) out (says r) out'
 
 -- ---- the comparison
 
@@ -48,11 +41,13 @@ compared_said_of E n b c y =
 abbrev pub compared_said : ℕ → List ℕ → List ℕ → ℕ → Said (ℕ × ℕ)
 compared_said = compared_said_of narrow
 
--- What each answer says.
-abbrev pub compare_says : Compared → Said (ℕ × ℕ)
-compare_says (compared.Apart d x) = gives (d, x)
-compare_says (compared.Refused r) = refuses r
+-- The two numbers of an answer, and what it says.
+abbrev pub apart : Apart → ℕ × ℕ
+apart a = (a.distance, a.missing)
+
+abbrev pub compare_says : Result Apart Refusal → Said (ℕ × ℕ)
+compare_says r = tells apart (says r)
 
 -- The promise: the distance and the missing split. Nothing is lent to write.
-abbrev pub Compares : ℕ → List ℕ → List ℕ → ℕ → Compared → Type 0
+abbrev pub Compares : ℕ → List ℕ → List ℕ → ℕ → Result Apart Refusal → Type 0
 Compares n t u y r = Answers as_said (compared_said n t u y) (compare_says r)

@@ -7,27 +7,18 @@ ghost use Rattle.taxa.specs.Most.{most};
 ghost use Rattle.tree.specs.Tree.{rows};
 ghost use Rattle.tree.specs.Splits as spec;
 ghost use Rattle.tree.specs.Refusals.{Accepted};
-ghost use Rattle.calls.specs.Calls.{gives};
 ghost use Rattle.sides.specs.Between.{Sided};
 ghost use Rattle.splits.specs.Between.{SplitList, Listed, lists_apart};
-ghost use Rattle.splits.specs.Promises.{Induces, compare_says, Compares};
+ghost use Rattle.splits.specs.Promises.{Induces, apart, Compares};
 
 use calls::Refusal;
-use table::Checked;
 
-// The answer of a call for induced splits: how many numbers were written.
-#[derive(Clone, Copy)]
-pub enum Induced {
-    Count(usize),
-    Refused(Refusal),
-}
-
-// The answer of a comparison: the distance, and the smallest number that the
-// second tree lacks, or 0.
-#[derive(Clone, Copy)]
-pub enum Compared {
-    Apart(usize, u64),
-    Refused(Refusal),
+// How far two trees are apart over a partition: the distance, and the smallest
+// number that the second tree lacks, or 0.
+#[derive(Clone, Copy, Debug, PartialEq, Eq)]
+pub struct Apart {
+    pub distance: usize,
+    pub missing: u64,
 }
 
 // How many induced splits a tree has over a partition of m taxa.
@@ -43,42 +34,47 @@ fn members(m: usize) -> usize
 
 // The same where the partition names none but the n taxa and the room
 // suffices: refusals 6 and 11.
-fn induced_tree(n: usize, t: &[u8], s: &[u64; sides::ROWS], y: u64, out: &mut [u64]) -> Induced
+fn induced_tree(
+    n: usize,
+    t: &[u8],
+    s: &[u64; sides::ROWS],
+    y: u64,
+    out: &mut [u64],
+) -> Result<usize, Refusal>
     requires { Sided n t.now s.now }
     ensures { Induces n t.now y out.old result out.new }
 {
     if !taxa::within(y, n) {
-        return Induced::Refused(Refusal::Partition);
+        return Err(Refusal::Partition);
     }
     let m = taxa::size(y);
     if out.len() < members(m) {
-        return Induced::Refused(Refusal::Room);
+        return Err(Refusal::Room);
     }
-    Induced::Count(split_lists::tree_splits(n, t, s, y, out))
+    Ok(split_lists::tree_splits(n, t, s, y, out))
 }
 
 // The induced splits of a tree over y, ascending, each once, written into out:
 // refusals 1 to 6 and 11.
-pub fn induced_splits(n: usize, t: &[u8], y: u64, out: &mut [u64]) -> Induced
+pub fn induced_splits(n: usize, t: &[u8], y: u64, out: &mut [u64]) -> Result<usize, Refusal>
     ensures { Induces n t.now y out.old result out.new }
 {
     let mut s = [0u64; sides::ROWS];
-    let answer = sides::find_sides(n, t, &mut s);
-    match answer {
-        Checked::Refused(r) => Induced::Refused(r),
-        Checked::Tree => induced_tree(n, t, &s, y, out),
-    }
+    sides::find_sides(n, t, &mut s)?;
+    induced_tree(n, t, &s, y, out)
 }
 
 // The comparison of two lists of splits.
-fn compare_lists(a: &[u64], b: &[u64]) -> Compared
+fn compare_lists(a: &[u64], b: &[u64]) -> Apart
     requires { (SplitList a.now) × (SplitList b.now) }
-    ensures { compare_says result ≡ gives (lists_apart a.now b.now) }
+    ensures { apart result ≡ lists_apart a.now b.now }
 {
     let lost = ascending::count_lacking(a, b);
     let gained = ascending::count_lacking(b, a);
-    let first = ascending::first_lacking(a, b);
-    Compared::Apart(lost + gained, first)
+    Apart {
+        distance: lost + gained,
+        missing: ascending::first_lacking(a, b),
+    }
 }
 
 // The comparison of the tree t, whose splits over y are a, with the table u:
@@ -90,36 +86,35 @@ fn compare_with(
     u: &[u8],
     y: u64,
     s: &mut [u64; sides::ROWS],
-) -> Compared
+) -> Result<Apart, Refusal>
     requires { (Listed n t.now y a.now) × (length s.old ≡ rows most) }
     ensures { Compares n t.now u.now y result }
 {
-    let answer = sides::find_sides(n, u, s);
-    match answer {
-        Checked::Refused(r) => Compared::Refused(r),
-        Checked::Tree => {
-            let mut b = [0u64; sides::ROWS];
-            let j = split_lists::tree_splits(n, u, s, y, &mut b);
-            compare_lists(a, &b[..j])
-        }
-    }
+    sides::find_sides(n, u, s)?;
+    let mut b = [0u64; sides::ROWS];
+    let j = split_lists::tree_splits(n, u, s, y, &mut b);
+    Ok(compare_lists(a, &b[..j]))
 }
 
 // The comparison of the tree t with the table u where y names more than the
 // taxa: refusals 2 to 5 of u, and 6.
-fn compare_without(n: usize, t: &[u8], u: &[u8], y: u64) -> Compared
+fn compare_without(n: usize, t: &[u8], u: &[u8], y: u64) -> Result<Apart, Refusal>
     requires { (Accepted n t.now) × (2 ^ n ≤ y) }
     ensures { Compares n t.now u.now y result }
 {
-    match sides::check_tree(n, u) {
-        Checked::Refused(r) => Compared::Refused(r),
-        Checked::Tree => Compared::Refused(Refusal::Partition),
-    }
+    sides::check_tree(n, u)?;
+    Err(Refusal::Partition)
 }
 
 // The comparison of the tree t, whose sides are s, with the table u. The sides
 // of u take their place when the splits of t are listed.
-fn compare_second(n: usize, t: &[u8], u: &[u8], y: u64, s: &mut [u64; sides::ROWS]) -> Compared
+fn compare_second(
+    n: usize,
+    t: &[u8],
+    u: &[u8],
+    y: u64,
+    s: &mut [u64; sides::ROWS],
+) -> Result<Apart, Refusal>
     requires { Sided n t.now s.old }
     ensures { Compares n t.now u.now y result }
 {
@@ -133,13 +128,10 @@ fn compare_second(n: usize, t: &[u8], u: &[u8], y: u64, s: &mut [u64; sides::ROW
 
 // The comparison of two trees over y: refusals 1, 2 to 5 of the first, 2 to 5
 // of the second, and 6.
-pub fn compare(n: usize, t: &[u8], u: &[u8], y: u64) -> Compared
+pub fn compare(n: usize, t: &[u8], u: &[u8], y: u64) -> Result<Apart, Refusal>
     ensures { Compares n t.now u.now y result }
 {
     let mut s = [0u64; sides::ROWS];
-    let answer = sides::find_sides(n, t, &mut s);
-    match answer {
-        Checked::Refused(r) => Compared::Refused(r),
-        Checked::Tree => compare_second(n, t, u, y, &mut s),
-    }
+    sides::find_sides(n, t, &mut s)?;
+    compare_second(n, t, u, y, &mut s)
 }

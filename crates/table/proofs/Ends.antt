@@ -1,19 +1,16 @@
 -- The ends of a row, as the code finds them. Assumes nothing.
-use mathlib.Core.Path.{◌≡◌, sym, ◌∙◌}
-use mathlib.Core.Bool.{true, false}
+use mathlib.Core.Path.{◌≡◌, ◌∙◌}
+use mathlib.Core.Bool.{false}
 use mathlib.Core.List.{List}
 use Prim.Native.Nat.{ℕ, ◌<◌}
 use native.Mathlib.Omega.{arith}
 use lib.Dec.{eqb}
-use borrow.Author.Tests.{eq-eqb, ne_eqb}
+use borrow.Author.Tests.{ne_eqb}
 use Rattle.taxa.specs.Most.{most}
 use Rattle.tree.specs.Tree.{lo, hi, rows, nodes}
 use Rattle.table.specs.Between.{Ordered}
 
--- a call answers x for y, and the code holds x against v
-pub told_same : {x y v : ℕ} → x ≡ y → x ≡ v → eqb y v ≡ true
-told_same {x} {y} {v} e h = eq-eqb y v (sym e ∙ h)
-
+-- a call answers x for y, and x is not v
 pub told_other : {x y v : ℕ} → x ≡ y → (x ≡ v → ⊥) → eqb y v ≡ false
 told_other {x} {y} {v} e h = ne_eqb y v (λ d. h (e ∙ d))
 

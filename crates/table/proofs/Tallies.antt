@@ -1,22 +1,22 @@
 -- Laws for the counts of rows at each node. Assumes nothing.
 use mathlib.Core.Path.{◌≡◌, refl, sym, ap, ◌∙◌}
 use mathlib.Core.Logic.{◌⊎◌, inl, inr}
-use mathlib.Core.Bool.{Bool, true, false, ◌&&◌, ◌||◌}
+use mathlib.Core.Bool.{Bool, true, false}
 use mathlib.Core.List.{List}
-use Prim.Native.Nat.{ℕ, ◌+◌, ◌*◌, ◌-◌, ◌≤◌, ◌<◌, zero-le}
+use Prim.Native.Nat.{ℕ, ◌+◌, ◌*◌, ◌-◌, ◌≤◌, ◌<◌}
 use native.Mathlib.Numerals.{add-one}
 use native.Mathlib.Omega.{arith}
 use lib.Dec.{eqb, ltb, leb}
 use lib.ListN.{length, get_or, set, length-set, replicate, length-replicate, get_or-replicate}
 use lib.Seq.{get_or-set_same, get_or-set_other}
-use borrow.Author.Tests.{eqb-true, eqb-false, ltb-true, ltb-false, leb-true, le-ltb, lt-ltb}
+use borrow.Author.Tests.{eqb-true, eqb-false, ltb-true, leb-true, le-ltb, lt-ltb}
 use Rattle.taxa.specs.Most.{most}
 use Rattle.taxa.specs.Sets.{pick, tally}
-use Rattle.taxa.proofs.Bools.{either, and_left, and_right, and_both, bool_eq, or_left}
+use Rattle.taxa.proofs.Bools.{either, and_left, and_right}
 use Rattle.tree.specs.Tree.{lo, hi, rows, nodes, touches, in_order, right_degree, degree, wanted}
 use Rattle.tree.specs.Tree.{every, count}
-use Rattle.tree.proofs.RowCounts.{every-all, all-every, every_same, touch-tally, count_le}
-use Rattle.table.specs.Between.{Ordered, Rowed, Counted, has_from}
+use Rattle.tree.proofs.RowCounts.{every-all, every_same, touch-tally, count_le}
+use Rattle.table.specs.Between.{Ordered, Rowed, Counted}
 use Rattle.table.proofs.Ends.{lo-node, hi-node}
 
 -- one more at place a
@@ -34,6 +34,17 @@ counted_none n t h = record {
   room = length-replicate {A = ℕ} (nodes most) 0;
   at = λ v l. get_or-replicate {A = ℕ} (nodes most) v 0 0 (omega arith);
 }
+
+-- No count passes the number of rows, so a byte holds it.
+count_fits : {n : ℕ} {t d : List ℕ} {i v : ℕ} → Ordered n t → i < rows n → Counted n t d i
+    → v < nodes n → get_or d v 0 + 1 < 256
+count_fits {t = t} {i = i} {v = v} o row counted l =
+    omega (arith, counted.at v l, count_le (λ r. touches t r v) i, row, o.few)
+
+pub first_fits : {n : ℕ} {t d : List ℕ} {i a : ℕ} → Ordered n t → i < rows n → Counted n t d i
+    → a ≡ lo t i → get_or d a 0 + 1 < 256
+first_fits {i = i} o row counted e =
+    count_fits o row counted (omega (arith, (o.order i row).0, (o.order i row).1, e))
 
 -- Row i is to be counted at its ends a and b.
 pub record Counting (n : ℕ) (t d : List ℕ) (i a b : ℕ) : Type 0 where
@@ -56,24 +67,11 @@ module _ {n : ℕ} {t d : List ℕ} {i a b : ℕ} (c : Counting n t d i a b) whe
   pub b_lt : b < nodes most
   b_lt = hi-node c.ordered c.row c.second
 
-  -- no count passes the number of rows, so a byte holds it
-  pub a_fits : get_or d a 0 + 1 < 256
-  a_fits = omega (
-    arith,
-    c.counted.at a (omega (arith, ends.0, ends.1, c.first)),
-    count_le (λ r. touches t r a) i,
-    c.row,
-    c.ordered.few,
-  )
-
   pub b_fits : get_or once b 0 + 1 < 256
   b_fits = omega (
     arith,
     get_or-set_other d a b (get_or d a 0 + 1) 0 (λ e. omega (arith, ends.0, c.first, c.second)),
-    c.counted.at b (omega (arith, ends.1, c.second)),
-    count_le (λ r. touches t r b) i,
-    c.row,
-    c.ordered.few,
+    count_fits {v = b} c.ordered c.row c.counted (omega (arith, ends.1, c.second)),
   )
 
   pub counted_more : Counted n t (set once b (get_or once b 0 + 1)) (i + 1)
@@ -135,40 +133,3 @@ module _ {n : ℕ} {t : List ℕ} where
         (every-all (right_degree n t) (nodes n) e v b)
         ∙ ap (λ (x : Bool). pick x 1 3) (le-ltb v n a);
   }
-
--- ---- the test of all counts, in two stretches: the taxa, and the inner nodes
-module _ (n : ℕ) (d : List ℕ) where
-  abbrev right : ℕ → Bool
-  right v = eqb (get_or d v 0) (wanted n v)
-
-  from_low : (v : ℕ) → v < n → right v ≡ has_from d 0 1 v
-  from_low v l = ap (λ (p : Bool). eqb (get_or d v 0) (pick p 1 3)) (lt-ltb v n l)
-      ∙ ap (λ (p : Bool). p || eqb (get_or d v 0) 1) (sym (le-ltb v 0 zero-le))
-
-  from_high : (v : ℕ) → n ≤ v → right v ≡ has_from d n 3 v
-  from_high v l = ap (λ (p : Bool). eqb (get_or d v 0) (pick p 1 3)) (le-ltb v n l)
-      ∙ ap (λ (p : Bool). p || eqb (get_or d v 0) 3) (sym (le-ltb v n l))
-
-  -- each way node by node, by whether the node is a taxon
-  pub two_stretches : {p q : Bool} → p ≡ every (has_from d 0 1) n
-      → q ≡ every (has_from d n 3) (nodes n) → n ≤ nodes n → every right (nodes n) ≡ (p && q)
-  two_stretches {p} {q} e f h =
-      bool_eq (every right (nodes n)) (p && q)
-      (λ w. and_both p q
-      (e ∙ all-every (has_from d 0 1) n (λ v l. sym (from_low v l)
-      ∙ every-all right (nodes n) w v (omega arith)))
-      (f ∙ all-every (has_from d n 3) (nodes n)
-      (λ v l. above v (every-all right (nodes n) w v l) (either (ltb v n)))))
-      (λ w. all-every right (nodes n) (λ v l. both v
-      (every-all (has_from d 0 1) n (sym e ∙ and_left p q w) v)
-      (every-all (has_from d n 3) (nodes n) (sym f ∙ and_right p q w) v l) (either (ltb v n))))
-    where
-      above : (v : ℕ) → right v ≡ true → (ltb v n ≡ true) ⊎ (ltb v n ≡ false)
-          → has_from d n 3 v ≡ true
-      above v w (inl l) = or_left (ltb v n) (eqb (get_or d v 0) 3) l
-      above v w (inr l) = sym (from_high v (ltb-false v n l)) ∙ w
-
-      both : (v : ℕ) → (v < n → has_from d 0 1 v ≡ true) → has_from d n 3 v ≡ true
-          → (ltb v n ≡ true) ⊎ (ltb v n ≡ false) → right v ≡ true
-      both v a b (inl l) = from_low v (ltb-true v n l) ∙ a (ltb-true v n l)
-      both v a b (inr l) = from_high v (ltb-false v n l) ∙ b

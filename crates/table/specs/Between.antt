@@ -1,6 +1,6 @@
 -- What only stands between the functions: what is known of a table when
 -- some of the checks have passed, and what the counts of rows hold.
-use Rattle.std.specs.Prelude.{ℕ, ◌+◌, ◌*◌, ◌≤◌, ◌<◌, ◌≡◌, Bool, ◌||◌, List, ◌++◌, eqb, ltb, length, get_or}
+use Rattle.std.specs.Prelude.{ℕ, ◌+◌, ◌*◌, ◌≤◌, ◌<◌, ◌≡◌, List, ◌++◌, length, get_or}
 use Rattle.taxa.specs.Most.{most}
 use Rattle.tree.specs.Tree.{lo, hi, rows, nodes, touches, count, degree}
 use Rattle.calls.specs.Calls.{Said, judged}
@@ -27,10 +27,6 @@ pub record Rowed (n : ℕ) (t : List ℕ) : Type 0 where
 pub record Counted (n : ℕ) (t d : List ℕ) (k : ℕ) : Type 0 where
   pub room : length d ≡ nodes most
   pub at : (v : ℕ) → v < nodes n → get_or d v 0 ≡ count (λ r. touches t r v) k
-
--- Node v comes before node a, or d holds k for it.
-abbrev pub has_from : List ℕ → ℕ → ℕ → ℕ → Bool
-has_from d a k v = ltb v a || eqb (get_or d v 0) k
 
 abbrev pub row_said : ℕ → List ℕ → Said (Unit {0})
 row_said n t = judged (count_checks n ++ row_checks n t) tt

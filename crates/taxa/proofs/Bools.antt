@@ -1,16 +1,16 @@
--- Laws of tests: and, or, not, exclusive or. Assumes nothing.
+-- Laws of tests: and, or, not, exclusive or. Those of the library stand here
+-- under the names that the proofs use. Assumes nothing.
 use mathlib.Core.Path.{◌≡◌, refl, sym, ap, ap₂, ◌∙◌}
-use mathlib.Core.Logic.{◌⊎◌, inl, inr}
-use mathlib.Core.Bool.{Bool, true, false, not, ◌&&◌, ◌||◌, true≢false, false≢true, or-true}
+use mathlib.Core.Logic.{◌⊎◌}
+use mathlib.Core.Bool.{Bool, true, false, not, ◌&&◌, true≢false, false≢true}
 use borrow.Author.Tests.{not-true, not-false}
+pub use mathlib.Core.Bool.{and-false as and_false_r}
+pub use Rattle.std.proofs.lemmas.Bool.{cases_Bool as either, and_from as and_both}
+pub use Rattle.std.proofs.lemmas.Bool.{or_cases, or_left, or_right, or_parts as or_neither}
 
 -- a test passes or not
 abbrev pub Either : Bool → Type 0
 Either b = (b ≡ true) ⊎ (b ≡ false)
-
-pub either : (b : Bool) → Either b
-either true = inl refl
-either false = inr refl
 
 -- a call tells the test b by its answer r, and the code asks for the opposite
 pub told_true : {r b : Bool} → r ≡ b → not r ≡ false → b ≡ true
@@ -31,9 +31,6 @@ pub and_right : (p q : Bool) → (p && q) ≡ true → q ≡ true
 and_right true q e = e
 and_right false q e = absurd (false≢true e)
 
-pub and_both : (p q : Bool) → p ≡ true → q ≡ true → (p && q) ≡ true
-and_both p q a b = ap₂ ◌&&◌ a b
-
 -- where the first implies the second, both is the first
 pub and_imp : (p q : Bool) → (p ≡ true → q ≡ true) → (p && q) ≡ p
 and_imp true q h = h refl
@@ -51,25 +48,6 @@ and_when false q r h = refl
 pub and_when' : (p q r : Bool) → p ≡ true → (p && q) ≡ (p && r) → q ≡ r
 and_when' true q r h e = e
 and_when' false q r h e = absurd (false≢true h)
-
-pub and_false_r : (p : Bool) → (p && false) ≡ false
-and_false_r true = refl
-and_false_r false = refl
-
--- ---- or
-pub or_cases : (p q : Bool) → (p || q) ≡ true → (p ≡ true) ⊎ (q ≡ true)
-or_cases true q e = inl refl
-or_cases false q e = inr e
-
-pub or_left : (p q : Bool) → p ≡ true → (p || q) ≡ true
-or_left p q h = ap (λ (x : Bool). x || q) h
-
-pub or_right : (p q : Bool) → q ≡ true → (p || q) ≡ true
-or_right p q h = ap (λ (x : Bool). p || x) h ∙ or-true p
-
-pub or_neither : (p q : Bool) → (p || q) ≡ false → (p ≡ false) × (q ≡ false)
-or_neither true q h = absurd (true≢false h)
-or_neither false q h = (refl, h)
 
 -- ---- equal tests
 pub bool_eq : (p q : Bool) → (p ≡ true → q ≡ true) → (q ≡ true → p ≡ true) → p ≡ q

@@ -1,13 +1,10 @@
 -- The union of two sets, and that of the sets on a list. Assumes nothing.
-use mathlib.Core.Path.{◌≡◌, refl, sym, ap, ◌∙◌}
+use mathlib.Core.Path.{◌≡◌, sym, ap, ◌∙◌}
 use mathlib.Core.Bool.{Bool, true, ◌&&◌, ◌||◌, or-false, or_assoc}
 use mathlib.Core.List.{List, [], ◌∷◌}
-use Prim.Native.Nat.{ℕ, ◌+◌, ◌^◌, ◌<◌}
-use native.Mathlib.Numerals.{add-one}
+use Prim.Native.Nat.{ℕ, ◌^◌, ◌<◌}
 use lib.Bits.{bit_or, or_lt}
 use lib.Dec.{ltb}
-use lib.ListN.{length, get_or, drop}
-use lib.Seq.{drop-cons, drop-length}
 use borrow.Author.Tests.{ltb-true, lt-ltb}
 use Rattle.taxa.specs.Sets.{has, Sub, joined, union, in_some}
 use Rattle.taxa.proofs.Bools.{and_left, and_right, and_both, or_left, or_right, bool_eq}
@@ -40,20 +37,9 @@ within_or n a b = bool_eq (ltb (bit_or a b) (2 ^ n)) (ltb a (2 ^ n) && ltb b (2 
 
 -- ---- the sets on a list
 
--- One more set of the list is joined.
-pub joined-next : (ys : List ℕ) (s i : ℕ) → i < length ys
-    → joined s (drop i ys) ≡ joined (bit_or s (get_or ys i 0)) (drop (i + 1) ys)
-unfolding joined
-joined-next ys s i l = rw (drop-cons ys i 0 l, add-one) refl
-
--- At the end of the list nothing more is.
-pub joined_end : (ys : List ℕ) (s i : ℕ) → i ≡ length ys → joined s (drop i ys) ≡ s
-unfolding joined
-joined_end ys s i e = rw (e, drop-length) refl
-
 -- The members of what is joined.
 has-joined : (s : ℕ) (ys : List ℕ) (i : ℕ) → has (joined s ys) i ≡ (has s i || in_some ys i)
-unfolding joined in_some
+unfolding in_some
 has-joined s [] i = sym (or-false (has s i))
 has-joined s (y ∷ ys) i = has-joined (bit_or s y) ys i
     ∙ ap (λ (b : Bool). b || in_some ys i) (has_or s y i)

@@ -1,6 +1,6 @@
 -- Sets of taxa, and of nodes, as numbers: i is a member of s where bit i of s
 -- is 1. Nothing here knows a width.
-use Rattle.std.specs.Prelude.{ℕ, zero, suc, ◌+◌, ◌/◌, ◌%◌, ◌^◌, ◌-◌, ◌≡◌, Bool, true, false, not, ◌||◌, List, [], ◌∷◌, eqb}
+use Rattle.std.specs.Prelude.{ℕ, zero, suc, ◌+◌, ◌/◌, ◌%◌, ◌^◌, ◌-◌, ◌≡◌, Bool, true, false, not, ◌||◌, List, [], ◌∷◌, eqb, fold}
 use Rattle.std.specs.Int.Bits.{bit_and, bit_or, bit_xor}
 use Rattle.std.specs.Int.Count.{count_trailing_zeros}
 
@@ -35,9 +35,8 @@ unfoldable pub add : ℕ → ℕ → ℕ
 add s i = bit_or s (2 ^ i)
 
 -- s with the members of each set on a list
-unfoldable pub joined : ℕ → List ℕ → ℕ
-joined s [] = s
-joined s (y ∷ ys) = joined (bit_or s y) ys
+abbrev pub joined : ℕ → List ℕ → ℕ
+joined s ys = fold bit_or s ys
 
 -- the union of the sets on a list
 abbrev pub union : List ℕ → ℕ

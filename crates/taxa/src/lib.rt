@@ -12,6 +12,7 @@ pub const MOST: usize = 64;
 pub const PARTITIONS: usize = 64;
 
 // Whether taxon i is in s.
+#[tactic(auto, unfolding(crate::specs::Sets::has))]
 pub fn has(s: u64, i: usize) -> bool
     requires { i < most }
     ensures { result ≡ sets.has s i }
@@ -48,16 +49,11 @@ pub fn within(y: u64, n: usize) -> bool
 pub fn union(ys: &[u64]) -> u64
     ensures { result ≡ sets.union ys.now }
 {
-    let mut all: u64 = 0;
-    let mut i: usize = 0;
-    while i < ys.len() {
-        all |= ys[i];
-        i += 1;
-    }
-    all
+    ys.iter().fold(0, |all, y| all | y)
 }
 
 // The members of y that are not in s.
+#[tactic(auto, unfolding(crate::specs::Sets::less))]
 pub fn less(y: u64, s: u64) -> u64
     ensures { result ≡ sets.less y s }
 {
@@ -65,6 +61,8 @@ pub fn less(y: u64, s: u64) -> u64
 }
 
 // The lowest taxon of y, or the largest number of taxa where y is empty.
+// Kept: a number for none, as the definition `lowest` has it, which theorems name.
+#[tactic(auto, unfolding(crate::specs::Sets::lowest))]
 pub fn lowest(y: u64) -> usize
     ensures { result ≡ sets.lowest most y }
 {
@@ -72,6 +70,7 @@ pub fn lowest(y: u64) -> usize
 }
 
 // How many taxa y has.
+#[tactic(auto, using(crate::proofs::Words::ones_size))]
 pub fn size(y: u64) -> usize
     ensures { result ≡ sets.size most y }
 {

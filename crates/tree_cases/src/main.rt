@@ -4,41 +4,21 @@
 
 mod trees;
 
-use case_lines::{head, size, word};
-use case_lists::{LONG, given};
+use case_lines::Case;
+use std::io;
 
-// Runs a case on its table.
-fn call(rt: &impl Print, input: &[u8], l: &[u8], t: &[u8]) {
-    let n = size(l, 1);
-    match head(l) {
-        b't' => trees::tree(rt, l, n, t),
-        b's' => trees::splits(rt, l, n, t),
-        b'c' => trees::compare(rt, input, l, n, t),
+// Runs a case.
+fn call(rt: &impl Print, case: Case<'_>) -> io::Result<()> {
+    // Kept: the letter stands in the cases; an enum would name each once more for one match.
+    match case.head() {
+        Some(b't') => trees::tree(rt, case),
+        Some(b's') => trees::splits(rt, case),
+        Some(b'c') => trees::compare(rt, case),
         _ => case_prints::line(rt, b"no such call"),
-    }
-}
-
-// Runs the case in a line.
-fn case(rt: &impl Print, input: &[u8], l: &[u8]) {
-    let mut t = [0u8; LONG];
-    call(rt, input, l, given(input, word(l, 2), &mut t));
-}
-
-// Runs the cases in their order.
-fn run(rt: &impl Print, input: &[u8]) {
-    let m = case_lines::lines(input);
-    let mut k: usize = 0;
-    while k < m {
-        let l = case_lines::line(input, k);
-        if case_lines::is_case(l) {
-            case(rt, input, l);
-        }
-        k += 1;
     }
 }
 
 // Reads the cases and runs them.
 fn main(rt: HostRuntime) {
-    let mut input = [0u8; whole_input::ROOM];
-    run(&rt, case_lines::read(&mut rt.stdin(), &mut input));
+    case_lines::run(&mut rt.stdin(), |case| call(&rt, case));
 }

@@ -1,5 +1,6 @@
 // The archive for callers in C and Rust: each call of the library under its C
 // name, with the same promise.
+// Kept: C's names are exported by an archive alone, and no theorem can name an archive's calls.
 #![tactic(auto)]
 
 ghost use Rattle.std.specs.Prelude.{◌≡◌};

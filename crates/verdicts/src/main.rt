@@ -4,14 +4,12 @@
 // Lists the job where it was read whole; a failure is said on standard error,
 // and the status is 0 all the same.
 fn main(rt: HostRuntime) {
-    let mut stdin = rt.stdin();
-    let mut input = [0u8; whole_input::ROOM];
-    let got = whole_input::read_full(&mut stdin, &mut input);
-    if !whole_input::whole(&mut stdin, got) {
+    let mut room = [0u8; whole_input::ROOM];
+    let Ok(job) = whole_input::read_whole(&mut rt.stdin(), &mut room) else {
         let _ = rt.eprintln("the job could not be read");
         return;
-    }
-    if !listing_writer::list(&rt, &input[..got]) {
+    };
+    if listing_writer::list(&rt, job).is_err() {
         let _ = rt.eprintln("the listing could not be written");
     }
 }

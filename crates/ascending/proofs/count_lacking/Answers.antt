@@ -1,27 +1,39 @@
 -- `ascending::count_lacking` meets its contract.
-use Rattle.std.proofs.Common.{arith}
-use Rattle.ascending.proofs.Lacking.{compared_a, compared_b}
-use Rattle.ascending.proofs.Lacking.{compared_pass, compared_both, compared_lone}
+use Rattle.std.proofs.Common.{rules, ◌∷◌, Less, Equal, Greater, sym}
+use Rattle.std.proofs.lemmas.Cmp.{ranked}
+use Rattle.ascending.proofs.Lacking.{Compared, compared_pass, compared_both, compared_alone}
+use Rattle.ascending.proofs.Lacking.{compared_left, compared_right}
 use Rattle.ascending.proofs.count_lacking.Goals as goal
-use Rattle.ascending.proofs.count_lacking.Goals.{then-y-x-2, else-y-x-2}
-use Rattle.ascending.proofs.count_lacking.Goals.{then-loop-i-test+else-j-b, else-loop-i-test}
+use Rattle.ascending.proofs.count_lacking.Goals.{In-Some-Some, in_default, in_default-2}
 
-pub loop-i-preserved-then-y-x : goal.loop-i-preserved-then-y-x
-loop-i-preserved-then-y-x c =
-    compared_pass c.loop-i.invariant c.loop-i-test.true c.if-j-b.true c.requires.a_ascends c.if-y-x.true
+-- both lists have a number left
+stage : (c : In-Some-Some)
+    → let two = c.in-Some-Some in
+    Compared c.args.a.now c.args.b.now c.loop-x.both (two.x.now ∷ two.xs.now)
+    (two.y.now ∷ two.ys.now)
+stage c = rw (c.in-Some-Some.ensures.cases.0, c.in-Some-Some.ensures'.cases.0) at c.loop-x.invariant
 
-pub loop-i-preserved : goal.loop-i-preserved
-loop-i-preserved c =
-    let inv = c.loop-i.invariant in
-    let in_a = c.loop-i-test.true in
-    elim c.if-y-x-2.branch [
-      | then-y-x-2 w ↦ compared_both inv in_a c.if-j-b.true w.if-y-x-2.true w.both-is
-      | else-y-x-2 w ↦ compared_lone inv in_a c.if-j-b.true c.requires.b_ascends (omega arith) w.both-is
-    ]
+pub loop-x-preserved-in-Less : goal.loop-x-preserved-in-Less
+loop-x-preserved-in-Less c =
+    let at = (goal.at.loop-x-preserved-in-Less c).In-Some-Some in
+    rw c.in-Some-Some.ensures'.cases.0
+    (compared_alone (stage at) (ranked _ _ Less c.in-Less.ensures))
+
+pub loop-x-preserved-in-Equal : goal.loop-x-preserved-in-Equal
+loop-x-preserved-in-Equal c =
+    let at = (goal.at.loop-x-preserved-in-Equal c).In-Some-Some in
+    rw c.in-Some-Some.ensures'.cases.0
+    (compared_both (stage at) (sym (ranked _ _ Equal c.in-Equal.ensures)))
+
+pub loop-x-preserved : goal.loop-x-preserved
+loop-x-preserved c =
+    let at = (goal.at.loop-x-preserved c).In-Some-Some in
+    rw c.in-Some-Some.ensures.cases.0
+    (compared_pass (stage at) (ranked _ _ Greater c.in-Greater.ensures))
 
 pub returns : goal.returns
 returns c =
-    elim c.loop-i-test.branch [
-      | then-loop-i-test+else-j-b w ↦ compared_b c.loop-i.invariant w.if-j-b.false
-      | else-loop-i-test w ↦ compared_a c.loop-i.invariant w.loop-i-test.false
+    elim c.match-split_first.branch [
+      | in_default w ↦ compared_right c.loop-x.invariant (search rules)
+      | in_default-2 w ↦ compared_left c.loop-x.invariant (search rules)
     ]

@@ -1,19 +1,27 @@
 -- `ascending::first_lacking` meets its contract.
-use Rattle.ascending.proofs.Lacking.{sought_end, sought_here, sought_more}
-use Rattle.ascending.proofs.Lacking.{held_end, held_lack, held_more}
+use Rattle.std.proofs.Common.{arith, refl}
+use Rattle.ascending.proofs.Walks.{sought_end, sought_here, sought_more}
+use Rattle.ascending.proofs.Walks.{held_end, held_lack, held_more}
 use Rattle.ascending.proofs.first_lacking.Goals as goal
 
-pub loop-j-preserved : goal.loop-j-preserved
-loop-j-preserved c = sought_more c.loop-j.invariant c.if-b-j.false c.if-b-j-2.false
+pub next-init : goal.next-init
+next-init c = record { upto = omega arith; rest = refl }
 
-pub walk-preserved : goal.walk-preserved
-walk-preserved c =
-    held_more c.walk.invariant c.if-a-i.false
-    (sought_here c.loop-j.invariant c.if-b-j.false c.if-b-j-2.true)
+pub loop-y-init : goal.loop-y-init
+loop-y-init c = record { upto = omega arith; rest = refl }
 
-pub returns-then-a-i : goal.returns-then-a-i
-returns-then-a-i c = held_end c.walk.invariant c.if-a-i.true
+pub loop-y-preserved : goal.loop-y-preserved
+loop-y-preserved c = sought_more c.loop-y.invariant c.loop-y-test.true c.if-y-x.false
 
-pub returns-then-b-j : goal.returns-then-b-j
-returns-then-b-j c =
-    held_lack c.walk.invariant c.if-a-i.false (sought_end c.loop-j.invariant c.if-b-j.true)
+pub next-preserved : goal.next-preserved
+next-preserved c =
+    held_more c.next.invariant c.next-test.true
+    (sought_here c.loop-y.invariant c.loop-y-test.true c.if-y-x.true)
+
+pub returns-after-loop-y : goal.returns-after-loop-y
+returns-after-loop-y c =
+    held_lack c.next.invariant c.next-test.true
+    (sought_end c.loop-y.invariant (omega arith))
+
+pub returns-after-next : goal.returns-after-next
+returns-after-next c = held_end c.next.invariant (omega arith)

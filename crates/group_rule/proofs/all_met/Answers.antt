@@ -1,14 +1,12 @@
 -- `group_rule::all_met` meets its contract.
-use Rattle.std.proofs.Common.{rules, refl}
-use Rattle.group_rule.proofs.Judging.{passed_met, met-full, met_short}
+use Rattle.std.proofs.Common.{◌∙◌, rules, tests}
+use Rattle.std.proofs.lemmas.Iterator.{YieldsList-from_slice}
+use Rattle.std.proofs.lemmas.Iterator.Search.{all_from_yields_List}
+use Rattle.group_rule.proofs.Judging.{meeting, all_meeting}
 use Rattle.group_rule.proofs.all_met.Goals as goal
 
-pub returns-then-meets-eq0 : goal.returns-then-meets-eq0
-returns-then-meets-eq0 c = search (rules, met_short)
-
-pub loop-i-preserved : goal.loop-i-preserved
-loop-i-preserved c =
-    passed_met c.loop-i.invariant c.loop-i-test.true c.meets.ensures c.if-meets-eq0.false
-
 pub returns : goal.returns
-returns c = met-full c.loop-i.invariant refl c.loop-i-test.false
+returns c =
+    all_from_yields_List (meeting c.args.y) _ _ _ c.all.ensures.ran
+    (YieldsList-from_slice c.args.gs.now cc) (λ x b q k. search (rules, tests))
+    ∙ all_meeting c.args.y c.args.gs.now

@@ -1,10 +1,8 @@
--- The loop's invariant: r of the first i groups are met.
-use Rattle.std.proofs.Common.{◌-◌, length}
-use Rattle.group_rule.proofs.Judging.{Passed}
+-- The loop's invariant: r of the groups so far meet y.
+use Rattle.std.proofs.Common.{◌≡◌, take}
+use Rattle.std.specs.List.{count_by}
+use Rattle.group_rule.proofs.Judging.{meeting}
 use Rattle.group_rule.proofs.count_met.Given as goal
 
-abbrev pub invariant-loop-i : goal.invariant-loop-i
-invariant-loop-i l = Passed l.y l.gs l.i l.r
-
-abbrev pub decreases-loop-i : goal.decreases-loop-i
-decreases-loop-i l = length l.gs - l.i
+abbrev pub invariant-loop-g : goal.invariant-loop-g
+invariant-loop-g l = l.r ≡ count_by (meeting l.y) (take l.g-index l.gs)

@@ -3,11 +3,12 @@
 use mathlib.Core.Path.{refl, sym, ◌∙◌}
 use native.Mathlib.Numerals.{add-one}
 use native.Mathlib.Omega.{arith}
+use Rattle.std.proofs.lemmas.Result.{err_from_is_err_and}
 use Rattle.inward.proofs.Counts.{climbs-few}
 use Rattle.inward.proofs.Arrives.{Arrives, arrive_node}
 use Rattle.inward.proofs.Steps.{next-taxon, come_home, come_first, second-room, come_second}
 use Rattle.inward.proofs.Outward.{no_taxon, not_again}
-use Rattle.inward.proofs.climb.Goals.{Else-w-n, In-Second}
+use Rattle.inward.proofs.climb.Goals.{Else-w-n}
 use Rattle.inward.proofs.climb.Goals as goal
 
 -- past both tests row r comes to an inner node
@@ -49,29 +50,32 @@ come-requires c =
       omega (arith, o.few, o.big, climbs-few C),
     )
 
-pub returns-in-First : goal.returns-in-First
-returns-in-First c =
-    let h = c.in-First.ensures in
-    rw h.1 (come_first (arrives (goal.at.returns-in-First c).Else-w-n) h.0)
+pub returns-in_default : goal.returns-in_default
+returns-in_default c =
+    let h = rw c.in_default.is at c.in_ok-x.ensures in
+    rw h.1 (come_first (arrives (goal.at.returns-in_default c).Else-w-n) h.0)
 
-pub returns-in-Again : goal.returns-in-Again
-returns-in-Again c =
-    let h = c.in-Again.ensures in
-    not_again c.requires.2 (arrives (goal.at.returns-in-Again c).Else-w-n) h
+pub returns-in_err-x : goal.returns-in_err-x
+returns-in_err-x c =
+    let A = arrives (goal.at.returns-in_err-x c).Else-w-n in
+    rw (err_from_is_err_and c.from_residual.result c.from_residual.ensures.1).1
+    (not_again c.requires.2 A c.in_err-x.ensures)
 
 -- where it comes as the second there is room for a node more
 pub overflow_add-c : goal.overflow_add-c
 overflow_add-c c =
     let A = arrives (goal.at.overflow_add-c c).Else-w-n in
-    omega (arith, second-room A c.in-Second.ensures.1, A.rowed.ordered.few)
+    let h = rw c.in-Some.is at c.in_ok-x.ensures in
+    omega (arith, second-room A h.1, A.rowed.ordered.few)
 
 pub loop-n-smaller : goal.loop-n-smaller
 loop-n-smaller c =
     let A = arrives (goal.at.loop-n-smaller c).Else-w-n in
-    omega (arith, second-room A c.in-Second.ensures.1)
+    let h = rw c.in-Some.is at c.in_ok-x.ensures in
+    omega (arith, second-room A h.1)
 
 pub loop-n-preserved : goal.loop-n-preserved
 loop-n-preserved c =
-    let h = c.in-Second.ensures in
+    let h = rw c.in-Some.is at c.in_ok-x.ensures in
     rw (h.3, h.2, add-one c.loop-n.c)
     (come_second (arrives (goal.at.loop-n-preserved c).Else-w-n) h.1 h.0 c.requires.2)

@@ -1,28 +1,11 @@
 -- `lines::saved_line` meets its contract.
-use Rattle.std.proofs.Common.{rules, arith}
-use Rattle.lines.specs.Lines.{saved_word}
-use Rattle.lines.proofs.Widths.{saved_bytes}
-use Rattle.lines.proofs.Placing.{saved_made}
+use Rattle.lines.specs.Lines.{saved_word, saved_line}
+use Rattle.lines.proofs.Placing.{both}
 use Rattle.lines.proofs.saved_line.Goals as goal
 
-pub number-a-requires : goal.number-a-requires
-number-a-requires c = omega (arith, saved_bytes)
-
-pub then_word-b-requires : goal.then_word-b-requires
-then_word-b-requires c = omega (arith, saved_bytes)
-
-pub then_number-c-requires : goal.then_number-c-requires
-then_number-c-requires c = omega (arith, saved_bytes)
-
-pub then_word-e-requires : goal.then_word-e-requires
-then_word-e-requires c = omega (arith, saved_bytes)
-
-pub then_class-f-requires : goal.then_class-f-requires
-then_class-f-requires c = omega (arith, saved_bytes)
-
-pub then_word-requires : goal.then_word-requires
-then_word-requires c = omega (arith, saved_bytes)
-
 pub returns : goal.returns
-unfolding saved_word
-returns c = search (rules, saved_made)
+unfolding saved_word saved_line
+returns g c =
+    let j = g.met.S.Sink.joined in
+    both j (both j (both j (both j (both j c.number.ensures c.word.ensures) c.number-2.ensures)
+    c.word-2.ensures) c.class.ensures) c.word-3.ensures

@@ -8,7 +8,10 @@ use Prim.Native.Nat.{ℕ, ◌+◌, ◌*◌, ◌-◌, ◌^◌, ◌≤◌, ◌<◌
 use native.Mathlib.Omega.{arith}
 use lib.Dec.{eqb}
 use lib.Bits.{bit_and}
-use borrow.Author.Tests.{le-ltb, ne_eqb, not-true, not-false}
+use borrow.Author.Tests.{le-ltb, ne_eqb, not-false}
+use Rattle.std.specs.Prelude.{Some, None, is_some}
+use Rattle.std.specs.Bool.{then_some}
+use Rattle.std.proofs.lemmas.Option.{none-some}
 use Rattle.taxa.specs.Sets.{pick, has, some}
 use Rattle.tree.specs.Tree.{lo, hi, rows, touches, far, part, Valid}
 use Rattle.tree.specs.Splits.{dist}
@@ -16,8 +19,9 @@ use Rattle.tree.proofs.Joins.{lo-touch, hi-touch, touch_joins, joins_touch, join
 use Rattle.tree.proofs.Colourings.{two-sides, valid-table}
 use Rattle.moves.specs.Moves.{Move, end_with, move_end, spr, stay_or, tbr, target, moved}
 use Rattle.moves.specs.Groups.{groups, stayed, met, rule, nni_rule, spr_rule, tbr_rule, move_rule}
-use Rattle.moves.specs.Between.{to_go, nni_plan, spr_plan, tbr_plan, plan_of, Planned, SideRight}
-use Rattle.moves.specs.Between.{side_moved, plan_moved, side_groups, by_groups}
+use Rattle.moves.specs.Between.{to_go, to_stay, nni_plan, spr_plan, tbr_plan, plan_of, Planned}
+use Rattle.moves.specs.Between.{Aims, SideRight, end_moved, side_moved, plan_moved}
+use Rattle.moves.specs.Between.{end_groups, side_groups, by_groups}
 use Rattle.moves.specs.declared.Plan.{Plan}
 use Rattle.moves.proofs.Ways.GroupLists.{met-append}
 use Rattle.moves.proofs.Ways.Covers.{Covers, stayed_covers, stayed-two, side-met, rule_comm}
@@ -52,9 +56,10 @@ go_or_stay : (n : ℕ) (t u : List ℕ) (v a b : ℕ) → touches u b v ≡ touc
     → side_moved n u a (to_go t v b) ≡ stay_or n u v a b
 unfolding stay_or
 go_or_stay n t u v a b e =
-    ap (λ (c : Bool). pick (not c) (move_end n u v a b) u) (sym e) ∙ go (touches u b v)
+    ap (λ (c : Bool). end_moved n u a v (then_some (not c) b)) (sym e) ∙ go (touches u b v)
   where
-    go : (c : Bool) → pick (not c) (move_end n u v a b) u ≡ pick c u (move_end n u v a b)
+    go : (c : Bool)
+        → end_moved n u a v (then_some (not c) b) ≡ pick c u (move_end n u v a b)
     go true = refl
     go false = refl
 
@@ -100,14 +105,16 @@ plan-moved {n} {t} {p} vt k = go (passed n t m vt.big k.fits)
 
 -- ---- its row, ends and targets
 
--- The two ends of one row; of an NNI both are inner nodes and stay.
+-- The two ends of one row; of an NNI both are inner nodes and stay, and what is
+-- exchanged are rows.
 pub record PlanRight (n : ℕ) (t : List ℕ) (p : Plan) : Type 0 where
   pub row : p.row < rows n
   pub ends : far t p.row p.first.node ≡ p.second.node
   pub first : SideRight n t p.row p.first
   pub second : SideRight n t p.row p.second
-  pub inner : p.nni ≡ true → (n ≤ p.first.node) × (n ≤ p.second.node)
-  pub stay : p.nni ≡ true → (p.first.goes ≡ false) × (p.second.goes ≡ false)
+  pub inner : is_some p.exchanged ≡ true → (n ≤ p.first.node) × (n ≤ p.second.node)
+  pub stay : is_some p.exchanged ≡ true → (p.first.target ≡ None) × (p.second.target ≡ None)
+  pub pair : (x y : ℕ) → p.exchanged ≡ Some (x, y) → (x < rows n) × (y < rows n)
 
 -- The end of an SPR lies with its target.
 spr-target : {n : ℕ} {t : List ℕ} {p a b : ℕ} → EndFits n t p a b → target n t a p b ≡ true
@@ -131,8 +138,21 @@ plan-right {n} {t} {p} vt k = go (passed n t m vt.big k.fits)
     to : (q : Plan) → p ≡ q → PlanRight n t q → PlanRight n t p
     to q e r = subst (PlanRight n t) (sym e) r
 
-    goes_away : (b v : ℕ) → not (touches t b v) ≡ true → touches t b v ≡ false
-    goes_away b v h = not-true (touches t b v) h
+    -- an end v that stays
+    stays : (v : ℕ) → touches t a v ≡ true → SideRight n t a (to_stay v)
+    stays v h = record { touch = h; aim = λ b e. absurd (none-some _ e) }
+
+    -- an end v that goes onto row b, unless b touches it
+    goes : (v b : ℕ) → touches t a v ≡ true → b < rows n → target n t a v b ≡ true
+        → SideRight n t a (to_go t v b)
+    goes v b h l f = record { touch = h; aim = to_b (touches t b v) refl }
+      where
+        to_b : (c : Bool) → touches t b v ≡ c → (d : ℕ) → then_some (not c) b ≡ Some d
+            → Aims n t a v d
+        to_b true e d w = absurd (none-some _ w)
+        to_b false e d w =
+            let same : b ≡ d = cc in
+            subst (Aims n t a v) same (record { row = l; fits = f; apart = e })
 
     go : Passed n t m → PlanRight n t p
     go (by_nni q) =
@@ -141,45 +161,39 @@ plan-right {n} {t} {p} vt k = go (passed n t m vt.big k.fits)
         (record {
           row = q.e_lt;
           ends = far-lo a vt q.e_lt;
-          first = record { touch = lo-touch t a; row = q.x_lt; aim = λ h. absurd (false≢true h) };
-          second = record { touch = hi-touch t a; row = q.y_lt; aim = λ h. absurd (false≢true h) };
+          first = stays (lo t a) (lo-touch t a);
+          second = stays (hi t a) (hi-touch t a);
           inner = λ h. (w.lo-inner, w.hi-inner);
           stay = λ h. (refl, refl);
+          pair = λ x y e.
+              let same : ◌≡◌ {A = ℕ × ℕ} (m.second, m.third) (x, y) = cc in
+              subst (λ (w : ℕ × ℕ). (w.0 < rows n) × (w.1 < rows n)) same (q.x_lt, q.y_lt);
         })
     go (by_spr q) =
         let e = end_with n t a m.second in
         let f = spr-fits a m.second vt q.a_lt q.b_lt q.ab q.away in
         let j = touch_joins t a e f.a_p in
+        let other = joins_touch t a (far t a e) e (joins_flip t a e (far t a e) j) in
         to (spr_plan n t a m.second) (k.is ∙ plan-spr n t m q.kind-is)
         (record {
           row = q.a_lt;
           ends = refl;
-          first = record { touch = f.a_p; row = q.b_lt; aim = λ h. (spr-target f, q.away) };
-          second = record {
-            touch = joins_touch t a (far t a e) e (joins_flip t a e (far t a e) j);
-            row = q.b_lt;
-            aim = λ h. absurd (false≢true h);
-          };
+          first = goes e m.second f.a_p q.b_lt (spr-target f);
+          second = stays (far t a e) other;
           inner = λ h. absurd (false≢true h);
           stay = λ h. absurd (false≢true h);
+          pair = λ x y h. absurd (none-some _ h);
         })
     go (by_tbr q) =
         to (tbr_plan t a m.second m.third) (k.is ∙ plan-tbr n t m q.kind-is)
         (record {
           row = q.a_lt;
           ends = far-lo a vt q.a_lt;
-          first = record {
-            touch = lo-touch t a;
-            row = q.b_lt;
-            aim = λ h. (q.low, goes_away m.second (lo t a) h);
-          };
-          second = record {
-            touch = hi-touch t a;
-            row = q.c_lt;
-            aim = λ h. (q.high, goes_away m.third (hi t a) h);
-          };
+          first = goes (lo t a) m.second (lo-touch t a) q.b_lt q.low;
+          second = goes (hi t a) m.third (hi-touch t a) q.c_lt q.high;
           inner = λ h. absurd (false≢true h);
           stay = λ h. absurd (false≢true h);
+          pair = λ x y h. absurd (none-some _ h);
         })
 
 -- ---- the distance from its groups
@@ -210,7 +224,7 @@ side-rule {n} {t} {a} {v} {b} A y j bound = go (touches t b v) refl
     not_one false false h = refl
 
     go : (c : Bool) → touches t b v ≡ c
-        → rule (met y (pick (not c) (groups n t a v b) (stayed n t a v))) j
+        → rule (met y (end_groups n t a v (then_some (not c) b))) j
         ≡ rule (met y (groups n t a v b)) j
     go true e =
         let first = none (stayed n t a v) (stayed_covers v A.valid A.a_lt A.a_v) in
@@ -223,7 +237,7 @@ side-rule {n} {t} {a} {v} {b} A y j bound = go (touches t b v) refl
 
 -- The groups on the two sides of a plan give the distance that the move makes.
 pub plan-dist : {n : ℕ} {t : List ℕ} {p : Plan} → Valid n t → Planned n t p → (y : ℕ) → y < 2 ^ n
-    → by_groups p.nni (side_groups n t p.row p.first) (side_groups n t p.row p.second) y
+    → by_groups (is_some p.exchanged) (side_groups n t p.row p.first) (side_groups n t p.row p.second) y
     ≡ dist n t (plan_moved n t p) y
 unfolding side_groups nni_rule spr_rule tbr_rule
 plan-dist {n} {t} {p} vt k y bound =
@@ -239,7 +253,7 @@ plan-dist {n} {t} {p} vt k y bound =
 
     rule_of : Plan → ℕ
     rule_of q =
-        by_groups q.nni (side_groups n t q.row q.first)
+        by_groups (is_some q.exchanged) (side_groups n t q.row q.first)
         (side_groups n t q.row q.second) y
 
     go : Passed n t m → rule_of p ≡ move_rule n t m y

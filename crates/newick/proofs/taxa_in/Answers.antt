@@ -1,27 +1,26 @@
 -- `newick::taxa_in` meets its contract.
-use Rattle.std.proofs.Common.{rules}
-use Rattle.newick.proofs.LineLaws.{Leads, no_digit, zero_first, no_second, other_length}
+use Rattle.std.proofs.Common.{arith, sym}
+use Rattle.newick.proofs.LineLaws.{no_digit, zero_first, no_second, other_length}
 use Rattle.newick.proofs.LineLaws.{one_line, two_line}
 use Rattle.newick.proofs.taxa_in.Goals as goal
 
-pub returns-then-a-gt9 : goal.returns-then-a-gt9
-returns-then-a-gt9 c = no_digit c.value_at-a.ensures c.if-a-gt9.true
+pub returns-in_err-a : goal.returns-in_err-a
+returns-in_err-a c = rw c.from_residual.ensures (no_digit _ (grind arith))
 
 pub returns-then-a-eq0 : goal.returns-then-a-eq0
-returns-then-a-eq0 c = zero_first c.value_at-a.ensures c.if-a-eq0.true
+returns-then-a-eq0 c = zero_first _ (sym c.in_ok-a.ensures.is) c.if-a-eq0.true
 
-pub returns-then-line-eq1 : goal.returns-then-line-eq1
-returns-then-line-eq1 c =
-    let leads : Leads c.args.line.now c.value_at-a.result = search rules in
-    one_line leads c.if-line-eq1.true
+pub returns-in_err-digit_at-in-2 : goal.returns-in_err-digit_at-in-2
+returns-in_err-digit_at-in-2 c =
+    rw c.from_residual-in_err-digit_at-in-2.ensures (no_second _ c.in-2.is (grind arith))
 
-pub returns-then-b-gt9 : goal.returns-then-b-gt9
-returns-then-b-gt9 c = no_second c.if-line-eq1.false c.value_at-b.ensures c.if-b-gt9.true
+pub returns-in-1 : goal.returns-in-1
+returns-in-1 c = one_line _ (sym c.in_ok-a.ensures.is) c.if-a-eq0.false c.in-1.is
 
-pub returns-then-line-eq2 : goal.returns-then-line-eq2
-returns-then-line-eq2 c =
-    let leads : Leads c.args.line.now c.value_at-a.result = search rules in
-    two_line leads c.value_at-b.ensures c.if-b-gt9.false c.if-line-eq2.true
+pub returns-in_ok-digit_at-in-2 : goal.returns-in_ok-digit_at-in-2
+returns-in_ok-digit_at-in-2 c =
+    two_line _ (sym c.in_ok-a.ensures.is) c.if-a-eq0.false (sym c.in_ok-digit_at-in-2.ensures.is)
+    c.in-2.is
 
-pub returns : goal.returns
-returns c = other_length c.if-line-eq1.false c.if-line-eq2.false
+pub returns-in_default : goal.returns-in_default
+returns-in_default c = other_length _ (λ q. omega arith) (λ q. omega arith)

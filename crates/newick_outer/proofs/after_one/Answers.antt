@@ -1,13 +1,16 @@
 -- `newick_outer::after_one` meets its contract.
-use Rattle.std.proofs.Common.{sym, ◌∙◌}
+use Rattle.std.proofs.Common.{rules}
 use Rattle.newick_outer.proofs.WholeLaws.{no_second, second_ready}
 use Rattle.newick_outer.proofs.after_one.Goals as goal
 
-pub returns-then-not-is_at : goal.returns-then-not-is_at
-returns-then-not-is_at c =
-    no_second c.requires (sym c.is_at.ensures ∙ c.if-not-is_at.true)
+pub returns-in_err-c : goal.returns-in_err-c
+returns-in_err-c c =
+    let a = c.args.text.now in
+    let h = no_second a.big a.few c.requires in
+    search rules
 
 pub member-requires : goal.member-requires
 member-requires c =
-    rw c.ahead.ensures
-    (second_ready c.requires (sym c.is_at.ensures ∙ c.if-not-is_at.false))
+    let a = c.args.text.now in
+    let p = c.in_ok-c.ensures in
+    rw p.1 (second_ready a.big a.few c.requires p.0)

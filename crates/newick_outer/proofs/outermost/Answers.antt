@@ -1,13 +1,15 @@
 -- `newick_outer::outermost` meets its contract.
-use Rattle.std.proofs.Common.{sym, ◌∙◌}
+use Rattle.std.proofs.Common.{rules}
 use Rattle.newick_outer.proofs.OuterLaws.{no_open}
 use Rattle.newick_outer.proofs.WholeLaws.{first_ready}
 use Rattle.newick_outer.proofs.outermost.Goals as goal
 
-pub returns-then-not-is_at : goal.returns-then-not-is_at
-returns-then-not-is_at c =
-    no_open c.requires.1 c.args.s.now c.requires.0
-    (sym c.is_at.ensures ∙ c.if-not-is_at.true)
+pub returns-in_err-c : goal.returns-in_err-c
+returns-in_err-c c =
+    let h = no_open c.requires.1 c.args.text.now c.requires.0 in
+    search rules
 
 pub member-requires : goal.member-requires
-member-requires c = first_ready c.requires (sym c.is_at.ensures ∙ c.if-not-is_at.false)
+member-requires c =
+    let p = c.in_ok-c.ensures in
+    rw p.1 (first_ready c.requires.0 c.requires.1 c.requires.2 p.0)

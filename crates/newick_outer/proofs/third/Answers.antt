@@ -1,48 +1,60 @@
 -- `newick_outer::third` meets its contract.
-use Rattle.std.proofs.Common.{sym, ◌∙◌}
+use Rattle.std.proofs.Common.{rules, arith}
 use Rattle.newick_outer.proofs.WholeLaws.{Three, no_third, third_ready, no_last, x_room}
 use Rattle.newick_outer.proofs.WholeLaws.{y_room, z_room, three_parsed}
-use Rattle.newick_outer.proofs.third.Goals.{Else-not-is_at, In-Node}
+use Rattle.newick_outer.proofs.third.Goals.{In_ok-z}
 use Rattle.newick_outer.proofs.third.Goals as goal
 
 -- the third member is read
-three : (c : In-Node)
+three : (c : In_ok-z)
     → let a = c.args in
-    Three a.n a.s.now c.member.new.table c.in-Node.d a.x a.y c.in-Node.z
+    let z = c.in_ok-z.z in
+    Three a.text.now.n a.text.now.bytes.now c.member.new.table z.after a.x a.y.node z.node
 three c = record {
   table = c.args.table.now;
-  between = c.args.c;
+  between = c.args.y.after;
   both = c.requires.0;
   left = c.requires.1;
-  parted = sym c.is_at.ensures ∙ c.if-not-is_at.false;
-  third = rw c.ahead.ensures at c.in-Node.ensures;
+  parted = c.in_ok-c.ensures.0;
+  third = rw c.in_ok-c.ensures.1 at c.in_ok-z.ensures;
 }
 
-pub returns-then-not-is_at : goal.returns-then-not-is_at
-returns-then-not-is_at c =
-    no_third c.requires.0 c.requires.1 (sym c.is_at.ensures ∙ c.if-not-is_at.true)
+pub returns-in_err-c : goal.returns-in_err-c
+returns-in_err-c c =
+    let a = c.args.text.now in
+    let h = no_third a.big a.few c.requires.0 c.requires.1 in
+    search rules
 
 pub member-requires : goal.member-requires
 member-requires c =
-    rw c.ahead.ensures
-    (third_ready c.requires.0 c.requires.1 (sym c.is_at.ensures ∙ c.if-not-is_at.false))
+    let a = c.args.text.now in
+    let p = c.in_ok-c.ensures in
+    rw p.1 (third_ready a.big a.few c.requires.0 c.requires.1 p.0)
 
-pub returns-then-not-is_at-2 : goal.returns-then-not-is_at-2
-returns-then-not-is_at-2 c =
-    no_last (three (goal.at.returns-then-not-is_at-2 c).In-Node)
-    (sym c.is_at-in-Node.ensures ∙ c.if-not-is_at-2.true)
+pub returns-in_err-end : goal.returns-in_err-end
+returns-in_err-end c =
+    let a = c.args.text.now in
+    let h = no_last a.big a.few (three (goal.at.returns-in_err-end c).In_ok-z) in
+    search rules
 
 pub join-requires : goal.join-requires
-join-requires c = x_room (three (goal.at.join-requires c).In-Node)
+join-requires c =
+    let a = c.args.text.now in
+    rw c.in_ok-end.ensures.1 (x_room a.big a.few (three (goal.at.join-requires c).In_ok-z))
 
-pub join-requires-in-Node : goal.join-requires-in-Node
-join-requires-in-Node c = y_room (three (goal.at.join-requires-in-Node c).In-Node)
+pub join-requires-2 : goal.join-requires-2
+join-requires-2 c =
+    let a = c.args.text.now in
+    rw c.in_ok-end.ensures.1 (y_room a.big a.few (three (goal.at.join-requires-2 c).In_ok-z))
 
-pub join-requires-in-Node-2 : goal.join-requires-in-Node-2
-join-requires-in-Node-2 c = z_room (three (goal.at.join-requires-in-Node-2 c).In-Node)
+pub join-requires-3 : goal.join-requires-3
+join-requires-3 c =
+    let a = c.args.text.now in
+    rw c.in_ok-end.ensures.1 (z_room a.big a.few (three (goal.at.join-requires-3 c).In_ok-z))
 
-pub returns-else-not-is_at-2 : goal.returns-else-not-is_at-2
-returns-else-not-is_at-2 c =
-    three_parsed (three (goal.at.returns-else-not-is_at-2 c).In-Node) c.join.ensures
-    c.join-in-Node.ensures (sym c.is_at-in-Node.ensures ∙ c.if-not-is_at-2.false)
-    c.join-in-Node-2.ensures c.finish.result c.finish.ensures
+pub returns : goal.returns
+returns c =
+    let a = c.args.text.now in
+    let p = c.in_ok-end.ensures in
+    three_parsed a.big a.few (three (goal.at.returns c).In_ok-z) p.0 (grind arith)
+    c.finish.result (rw p.1 at c.finish.ensures)

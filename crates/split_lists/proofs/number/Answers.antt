@@ -1,54 +1,55 @@
 -- `split_lists::number` meets its contract.
 use mathlib.Core.Path.{◌≡◌, sym, ap, ◌∙◌}
+use mathlib.Core.Bool.{true, false}
+use Prim.Native.Nat.{ℕ}
 use native.Mathlib.Omega.{arith}
 use lib.Bits.{bit_and}
+use Rattle.std.proofs.Common.{Ordering, Less, Equal, Greater, nat_cmp}
+use Rattle.std.specs.Ordering.{MatchOrdering}
+use Rattle.std.proofs.lemmas.Cmp.{ranked}
 use Rattle.taxa.specs.Most.{most}
 use Rattle.taxa.specs.Sets.{has, size, less, lowest}
+use Rattle.tree.specs.Splits.{split}
 use Rattle.tree.proofs.SideWritten.{inside-written, outside_written, inside_tie, outside_tie}
-use Rattle.split_lists.proofs.number.Goals.{After-has, After-size-other, Else-other-own}
 use Rattle.split_lists.proofs.number.Goals as goal
 
--- past the fourth call the sizes of both sides are known
-outer : (c : After-size-other) → let a = c.args in
-    c.size-other.result ≡ size most (less a.y a.s)
-outer c = c.size-other.ensures ∙ ap (size most) c.less-outside.ensures
+-- the order of both counts says which side is written; u is the other side
+by_counts : (y s : ℕ) {u own other : ℕ} → u ≡ less y s → own ≡ size most (bit_and s y)
+    → other ≡ size most u → (r : Ordering) → r ≡ nat_cmp own other
+    → MatchOrdering r (bit_and s y ≡ split most y s)
+    ((has s (lowest most y) ≡ true → u ≡ split most y s)
+    × (has s (lowest most y) ≡ false → bit_and s y ≡ split most y s))
+    (u ≡ split most y s)
+by_counts y s {u} {own} {other} hu hi ho Less h =
+    let smaller = ranked own other Less h in
+    inside-written most y s (omega (arith, smaller, hi, ho ∙ ap (size most) hu))
+by_counts y s {u} {own} {other} hu hi ho Equal h =
+    let same = sym hi ∙ ranked own other Equal h ∙ ho ∙ ap (size most) hu in
+    (λ t. hu ∙ outside_tie most y s same t, λ t. inside_tie most y s same t)
+by_counts y s {u} {own} {other} hu hi ho Greater h =
+    let larger = ranked own other Greater h in
+    hu ∙ outside_written most y s (omega (arith, larger, hi, ho ∙ ap (size most) hu))
 
--- past the second test they are the same
-tied : (c : Else-other-own) → let a = c.args in
-    size most (bit_and a.s a.y) ≡ size most (less a.y a.s)
-tied c =
-    omega (
-      arith,
-      c.if-own-other.false,
-      c.if-other-own.false,
-      c.size-own.ensures,
-      outer c.before.before,
-    )
+pub returns-in-Less : goal.returns-in-Less
+returns-in-Less c =
+    let a = c.args in
+    by_counts a.y a.s c.less-outside.ensures c.size-own.ensures c.size-other.ensures Less
+    c.in-Less.ensures
 
--- and the lowest taxon tells
-low_in : (c : After-has) → c.has.result ≡ has c.args.s (lowest most c.args.y)
-low_in c =
-    c.has.ensures ∙ ap (has c.args.s) c.requires.0
+pub returns-in-Greater : goal.returns-in-Greater
+returns-in-Greater c =
+    let a = c.args in
+    by_counts a.y a.s c.less-outside.ensures c.size-own.ensures c.size-other.ensures Greater
+    c.in-Greater.ensures
 
-pub returns-then-own-other : goal.returns-then-own-other
-returns-then-own-other c =
-    let at = goal.at.returns-then-own-other c in
-    inside-written most _ c.args.s
-    (omega (arith, c.if-own-other.true, c.size-own.ensures, outer at.After-size-other))
+pub returns-in-Equal : goal.returns-in-Equal
+returns-in-Equal c =
+    let a = c.args in
+    (by_counts a.y a.s c.less-outside.ensures c.size-own.ensures c.size-other.ensures Equal
+    c.in-Equal.ensures).0 (rw (← c.requires.0) (sym c.if-has.ensures))
 
-pub returns-then-other-own : goal.returns-then-other-own
-returns-then-other-own c =
-    let at = goal.at.returns-then-other-own c in
-    c.less-outside.ensures ∙ outside_written most _ c.args.s
-    (omega (arith, c.if-other-own.true, c.size-own.ensures, outer at.After-size-other))
-
-pub returns-then-has : goal.returns-then-has
-returns-then-has c =
-    let at = goal.at.returns-then-has c in
-    c.less-outside.ensures
-    ∙ outside_tie most _ _ (tied at.Else-other-own) (sym (low_in at.After-has) ∙ c.if-has.true)
-
-pub returns : goal.returns
-returns c =
-    let at = goal.at.returns c in
-    inside_tie most _ _ (tied at.Else-other-own) (sym (low_in at.After-has) ∙ c.if-has.false)
+pub returns-in-Equal-2 : goal.returns-in-Equal-2
+returns-in-Equal-2 c =
+    let a = c.args in
+    (by_counts a.y a.s c.less-outside.ensures c.size-own.ensures c.size-other.ensures Equal
+    c.in-Equal.ensures).1 (rw (← c.requires.0) (sym c.if-has.ensures))

@@ -1,32 +1,29 @@
 -- `table::degrees` meets its contract.
-use native.Mathlib.Omega.{arith}
-use Rattle.table.proofs.Tallies.{Counting, counted_none, counted_more}
-use Rattle.table.proofs.Tallies.{a_fits, b_fits}
-use borrow.Author.Rules.{rules}
-use Rattle.table.proofs.degrees.Goals.{After-hi-b}
+use Rattle.table.proofs.Tallies.{Counting, counted_none, counted_more, first_fits, b_fits}
+use Rattle.table.proofs.degrees.Goals.{After-hi}
 use Rattle.table.proofs.degrees.Goals as goal
 
 -- both ends of a row are known
-counting : (c : After-hi-b)
+counting : (c : After-hi)
     → let a = c.args in
-    Counting a.n a.t.now c.loop-i.d c.loop-i.i c.lo-a.result c.hi-b.result
-counting c =
-    record {
-      ordered = c.requires;
-      row = c.loop-i-test.true;
-      counted = c.loop-i.invariant.1;
-      first = c.lo-a.ensures;
-      second = c.hi-b.ensures;
-    }
+    Counting a.n a.t.now c.loop-r.d c.loop-r.r c.lo.result c.hi.result
+counting c = record {
+  ordered = c.requires;
+  row = c.loop-r-test.true;
+  counted = c.loop-r.invariant;
+  first = c.lo.ensures;
+  second = c.hi.ensures;
+}
 
-pub loop-i-init : goal.loop-i-init
-loop-i-init c = (search rules, counted_none _ _ c.requires.few)
+pub loop-r-init : goal.loop-r-init
+loop-r-init c = counted_none _ _ c.requires.few
 
 pub overflow_add-d : goal.overflow_add-d
-overflow_add-d c = record { fits = a_fits (counting c) }
+overflow_add-d c =
+    record { fits = first_fits c.requires c.loop-r-test.true c.loop-r.invariant c.lo.ensures }
 
-pub overflow_add-d-in-loop-i : goal.overflow_add-d-in-loop-i
-overflow_add-d-in-loop-i c = record { fits = b_fits (counting c) }
+pub overflow_add-d-in-loop-r : goal.overflow_add-d-in-loop-r
+overflow_add-d-in-loop-r c = record { fits = b_fits (counting c) }
 
-pub loop-i-preserved : goal.loop-i-preserved
-loop-i-preserved c = (omega arith, counted_more (counting c))
+pub loop-r-preserved : goal.loop-r-preserved
+loop-r-preserved c = counted_more (counting c)

@@ -1,13 +1,6 @@
--- `table::degrees` meets its contract.
-use Prim.Native.Nat.{◌≤◌, ◌-◌}
-use Rattle.tree.specs.Tree.{rows}
+-- The loop's invariant: the counts are those of the rows so far.
 use Rattle.table.specs.Between.{Counted}
 use Rattle.table.proofs.degrees.Given as goal
 
-abbrev pub invariant-loop-i : goal.invariant-loop-i
-invariant-loop-i l =
-    (l.i ≤ rows l.n) × Counted l.n l.t l.d l.i
-
-abbrev pub decreases-loop-i : goal.decreases-loop-i
-decreases-loop-i l =
-    rows l.n - l.i
+abbrev pub invariant-loop-r : goal.invariant-loop-r
+invariant-loop-r l = Counted l.n l.t l.d l.r

@@ -1,17 +1,14 @@
 -- `table::degrees_right` meets its contract.
-use mathlib.Core.Path.{refl, sym, ◌∙◌}
-use native.Mathlib.Omega.{arith}
-use Rattle.table.proofs.Tallies.{two_stretches}
+use Rattle.std.proofs.Common.{arith}
+use Rattle.table.proofs.Alls.{two_stretches}
 use Rattle.table.proofs.degrees_right.Goals as goal
 
-pub returns-then-not-all_at : goal.returns-then-not-all_at
-returns-then-not-all_at c =
-    let a = c.args in
-    sym (two_stretches a.n a.d.now (sym (sym c.all_at.ensures
-    ∙ c.if-not-all_at.true)) refl (omega arith))
+pub returns-then-all_at : goal.returns-then-all_at
+returns-then-all_at c =
+    let two = two_stretches c.args.n c.args.d.now (omega arith) (omega arith) in
+    rw (← two, ← c.all_at.ensures, c.if-all_at.true) c.all_at-then-all_at.ensures
 
-pub returns : goal.returns
-returns c =
-    let a = c.args in
-    sym (two_stretches a.n a.d.now (sym (sym c.all_at.ensures
-    ∙ c.if-not-all_at.false)) c.all_at-2.ensures (omega arith))
+pub returns-else-all_at : goal.returns-else-all_at
+returns-else-all_at c =
+    let two = two_stretches c.args.n c.args.d.now (omega arith) (omega arith) in
+    rw (← two, ← c.all_at.ensures, c.if-all_at.false)

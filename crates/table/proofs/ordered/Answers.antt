@@ -1,24 +1,15 @@
 -- `table::ordered` meets its contract.
-use mathlib.Core.Path.{refl, ◌∙◌}
-use native.Mathlib.Omega.{arith}
-use Rattle.tree.specs.Tree.{every}
-use Rattle.table.proofs.Gathers.{gather_more}
-use Rattle.table.proofs.Pairs.{wrong_none, every_fine}
-use borrow.Author.Rules.{rules}
+use Rattle.std.proofs.Common.{rules, arith, tests, ◌/◌, length, true, ap, ◌∙◌}
+use Rattle.std.specs.Simd.{first_chunks}
+use Rattle.std.proofs.lemmas.Iterator.{YieldsList-from_slice}
+use Rattle.std.proofs.lemmas.Iterator.Consumers.{fold_from_yields_List}
+use Rattle.tree.specs.Tree.{every, in_order}
+use Rattle.table.proofs.Alls.{with_row, all_rows}
 use Rattle.table.proofs.ordered.Goals as goal
-
-pub loop-j-init : goal.loop-j-init
-unfolding every
-loop-j-init c =
-    (search rules, refl)
-
-pub loop-j-preserved : goal.loop-j-preserved
-loop-j-preserved c =
-    let a = c.args in
-    let fails = wrong_none a.n a.t.now c.loop-j.j in
-    (search rules, gather_more _ _ c.loop-j.bad _ c.loop-j.invariant.1 fails)
 
 pub returns : goal.returns
 returns c =
-    let a = c.args in
-    c.loop-j.invariant.1 ∙ every_fine a.n a.t.now _ (omega arith)
+    let n = c.args.n in let t = c.args.t.now in let m = length t / 2 in
+    fold_from_yields_List _ (with_row n) true c.fold.result c.fold.ensures.ran
+    (YieldsList-from_slice (first_chunks 2 m t) cc) (λ a row b q h. search (rules, tests))
+    ∙ all_rows n t m ∙ ap (every (in_order n t)) (omega arith)

@@ -1,6 +1,0 @@
--- `case_lists::put_often` meets its contract.
-use Rattle.std.proofs.Common.{◌-◌}
-use Rattle.case_lists.proofs.put_often.Given as goal
-
-abbrev pub decreases-loop-i : goal.decreases-loop-i
-decreases-loop-i l = l.often - l.i

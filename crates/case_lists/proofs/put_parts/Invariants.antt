@@ -1,6 +1,0 @@
--- `case_lists::put_parts` meets its contract.
-use Rattle.std.proofs.Common.{◌-◌}
-use Rattle.case_lists.proofs.put_parts.Given as goal
-
-abbrev pub decreases-loop-k : goal.decreases-loop-k
-decreases-loop-k l = l.m - l.k

@@ -1,6 +1,0 @@
--- `case_lists::put_text` meets its contract.
-use Rattle.std.proofs.Common.{◌-◌, length}
-use Rattle.case_lists.proofs.put_text.Given as goal
-
-abbrev pub decreases-loop-i : goal.decreases-loop-i
-decreases-loop-i l = length l.text - l.i
