@@ -1,14 +1,43 @@
-// What the programs of cases print, beside text and single numbers; a write
-// that fails shows where their output is compared.
+// What the programs of cases print. Each part is written by itself. After a
+// write that fails they go on with the next; it shows where their output is
+// compared.
 #![tactic(auto)]
 
-use std::fmt::{self, Display, Formatter};
-use std::io;
+use std::fmt::{self, Display, Formatter, Write};
+
+// Standard output, on which each part of a text is written by itself.
+// Kept: `print!` would write it as one, and less of it where that fails.
+#[derive(Drop)]
+struct Parts<'a, P>(&'a P);
+
+impl<P: Print> Write for Parts<'_, P> {
+    fn write_str(&mut self, part: &str) -> fmt::Result {
+        let _ = self.0.write_all(part.as_bytes());
+        Ok(())
+    }
+}
+
+// Prints a value.
+pub fn put<D: Display + Drop>(rt: &impl Print, value: D) {
+    let _ = Parts(rt).write(value);
+}
+
+// Prints a value and a blank, so that words or another number can follow.
+pub fn say<D: Display + Drop>(rt: &impl Print, value: D) {
+    put(rt, value);
+    put(rt, " ");
+}
+
+// Prints a value, a blank and words.
+pub fn tell<D: Display + Drop>(rt: &impl Print, value: D, words: &str) {
+    say(rt, value);
+    put(rt, words);
+}
 
 // Prints words, which need not be text, and ends the line.
-pub fn line(rt: &impl Print, words: &[u8]) -> io::Result<()> {
-    rt.write_all(words)?;
-    rt.write_all(b"\n")
+pub fn line(rt: &impl Print, words: &[u8]) {
+    let _ = rt.write_all(words);
+    put(rt, "\n");
 }
 
 // The numbers of a list, a blank after each.

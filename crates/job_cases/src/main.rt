@@ -6,40 +6,39 @@ mod long;
 
 use case_lines::Case;
 use case_lists::bytes;
-use case_prints::line;
-use std::io;
+use case_prints::{line, put, tell};
 
 // Writes the line that introduces a job.
-fn introduce(rt: &impl Print, case: Case<'_>) -> io::Result<()> {
-    print!(rt; "job ")?;
-    rt.write_all(case.word(1))?;
-    print!(rt; ": ")?;
-    line(rt, case.title(3))
+fn introduce(rt: &impl Print, case: Case<'_>) {
+    put(rt, "job ");
+    let _ = rt.write_all(case.word(1));
+    put(rt, ": ");
+    line(rt, case.title(3));
 }
 
 // A case `job NUMBER BYTES TITLE`: the listing.
-fn listed(rt: &impl Print, case: Case<'_>, job: &[u8]) -> io::Result<()> {
-    introduce(rt, case)?;
-    listing_writer::list(rt, job)
+fn listed(rt: &impl Print, case: Case<'_>, job: &[u8]) {
+    introduce(rt, case);
+    let _ = listing_writer::list(rt, job);
 }
 
 // A case `long NUMBER BYTES TITLE`: the end of the listing.
-fn counted(rt: &impl Print, case: Case<'_>, job: &[u8]) -> io::Result<()> {
-    introduce(rt, case)?;
-    long::count(rt, job)
+fn counted(rt: &impl Print, case: Case<'_>, job: &[u8]) {
+    introduce(rt, case);
+    long::count(rt, job);
 }
 
 // A case `cuts NUMBER BYTES TITLE`: the listings of the job cut at every place.
-fn cuts(rt: &impl Print, case: Case<'_>, job: &[u8]) -> io::Result<()> {
+fn cuts(rt: &impl Print, case: Case<'_>, job: &[u8]) {
     for k in 0..job.len() {
-        print!(rt; "cut to {k} bytes, ")?;
-        listed(rt, case, &job[..k])?;
+        put(rt, "cut to ");
+        tell(rt, k, "bytes, ");
+        listed(rt, case, &job[..k]);
     }
-    Ok(())
 }
 
 // Runs a case on its job.
-fn on_job(rt: &impl Print, case: Case<'_>) -> io::Result<()> {
+fn on_job(rt: &impl Print, case: Case<'_>) {
     let job = bytes::<{ whole_input::ROOM }>(case, 2);
     // Kept: the letter stands in the cases; an enum would name each once more for one match.
     match case.head() {

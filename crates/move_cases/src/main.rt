@@ -5,10 +5,9 @@
 mod three;
 
 use case_lines::Case;
-use std::io;
 
 // Runs a case.
-fn call(rt: &impl Print, case: Case<'_>) -> io::Result<()> {
+fn call(rt: &impl Print, case: Case<'_>) {
     // Kept: the letter stands in the cases; an enum would name each once more for one match.
     match case.head() {
         Some(b'o') => three::one(rt, case),

@@ -64,12 +64,33 @@ fn read(input: &[u8], table: &mut [u8; TABLE]) -> Result<usize, Unread>
     Ok(n)
 }
 
+// Says a refusal by its number, and its place where it has one.
+// Kept: each part is a write, and is tried where the one before it failed.
+fn say(rt: &impl Eprint, unread: Unread) {
+    let _ = rt.eprint("refused ");
+    match unread {
+        Unread::Refused(why) => {
+            let _ = rt.eprint(why);
+            let _ = rt.eprint("\n");
+        }
+        Unread::NotNewick(e) => {
+            let _ = rt.eprint(Refusal::Text);
+            let _ = rt.eprint(" at ");
+            let _ = rt.eprintln(e.at);
+        }
+    }
+}
+
 // Gives the fields of the tree that an input is, or says why there are none.
-fn answer(rt: &(impl Print + Eprint), input: &[u8]) -> io::Result<()> {
+fn answer(rt: &(impl Print + Eprint), input: &[u8]) {
     let mut table = [0u8; TABLE];
     match read(input, &mut table) {
-        Ok(n) => put(rt, n, &table).or_else(|_| rt.eprintln("the fields could not be written")),
-        Err(why) => rt.eprintln(why),
+        Ok(n) => {
+            if put(rt, n, &table).is_err() {
+                let _ = rt.eprintln("the fields could not be written");
+            }
+        }
+        Err(why) => say(rt, why),
     }
 }
 
@@ -83,5 +104,5 @@ fn main(rt: HostRuntime) {
         let _ = rt.eprintln("the text could not be read");
         return;
     };
-    let _ = answer(&rt, input);
+    answer(&rt, input);
 }

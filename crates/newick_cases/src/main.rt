@@ -8,13 +8,12 @@ mod texts;
 
 use case_lines::Case;
 use case_lists::bytes;
-use std::io;
 
 // The most bytes of a text that a case can have.
 const LONG: usize = 512;
 
 // Runs a case on its text and its second list of bytes, if it has one.
-fn on_text(rt: &impl Print, case: Case<'_>) -> io::Result<()> {
+fn on_text(rt: &impl Print, case: Case<'_>) {
     let text = bytes::<LONG>(case, 2);
     let other = bytes::<LONG>(case, 3);
     // Kept: the letter stands in the cases; an enum would name each once more for one match.

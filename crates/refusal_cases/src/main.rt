@@ -7,8 +7,7 @@ use calls::Refusal;
 use case_lines::Case;
 use case_lists::{LONG, MARK, bytes, marked, number_at, numbers};
 use case_moves::four;
-use case_prints::{Kept, line};
-use std::io;
+use case_prints::{Kept, line, put, tell};
 
 // The number that a call is refused with, or 0.
 fn number<T: Drop>(answer: Result<T, Refusal>) -> u8 {
@@ -21,7 +20,7 @@ fn number<T: Drop>(answer: Result<T, Refusal>) -> u8 {
 // A case `refuse TAXA TABLE PARTITIONS MOVE TITLE`: the number that each of the
 // three calls gives, of taxa 0 to 3 where a move is judged alone, and whether the
 // table and a lent list are as they were.
-fn refuse(rt: &impl Print, case: Case<'_>) -> io::Result<()> {
+fn refuse(rt: &impl Print, case: Case<'_>) {
     let n = case.size(1);
     let copy = bytes::<LONG>(case, 2);
     let mut t = bytes::<LONG>(case, 2);
@@ -32,13 +31,13 @@ fn refuse(rt: &impl Print, case: Case<'_>) -> io::Result<()> {
     let applied = number(judge::apply_move(n, t.as_mut_slice(), m));
     let judged = number(judge::judge_move(n, &t, &ys, m, &mut out));
     let alone = number(judge::judge_one(n, &t, 15, m));
-    print!(rt; "{applied} applied, {judged} judged, {alone} alone, ")?;
-    print!(rt;
-        "table {}list {}",
-        Kept(t == copy),
-        Kept(marked(&out, MARK, 0))
-    )?;
-    line(rt, case.title(5))
+    tell(rt, applied, "applied, ");
+    tell(rt, judged, "judged, ");
+    tell(rt, alone, "alone, table ");
+    put(rt, Kept(t == copy));
+    put(rt, "list ");
+    put(rt, Kept(marked(&out, MARK, 0)));
+    line(rt, case.title(5));
 }
 
 // Reads the cases and runs them.
