@@ -16,7 +16,7 @@ use arrayvec::ArrayVec;
 use moves::Side;
 
 // How many groups a list has room for: each has a taxon of its own.
-const ROOM: usize = taxa::MOST;
+pub const ROOM: usize = taxa::MOST;
 
 // The groups on one side of a row.
 pub type Groups = ArrayVec<u64, ROOM>;
@@ -145,14 +145,15 @@ impl TreeView<'_> {
         out.push(self.beyond(v, o.g));
     }
 
-    // Lists the groups on the side of an end of row a.
+    // Lists the groups on the side of an end of row a, and no more.
     #[tactic(auto, unfolding(moves::specs::Between::side_groups))]
     pub fn groups(&self, a: usize, end: Side, out: &mut Groups)
         requires near { Near self.now.n self.now.table.now self.now.near.now }
         requires end { let n = self.now.n in
-            (a < rows n) × (SideRight n self.now.table.now a end) × (out.old.items ≡ []) }
+            (a < rows n) × (SideRight n self.now.table.now a end) }
         ensures { out.new.items ≡ side_groups self.now.n self.now.table.now a end }
     {
+        out.clear();
         match end.target {
             Some(b) => self.way(a, end.node, b, out),
             None => self.stays(a, end.node, out),

@@ -6,12 +6,12 @@ use Rattle.judge.proofs.judge_groups.Goals as goal
 pub groups-requires : goal.groups-requires
 groups-requires c =
     let r = rights c.args.tree.now.sided.good c.requires.judged.0 in
-    record { near = c.requires.near; end = (r.row, r.first, c.new-gs.ensures) }
+    record { near = c.requires.near; end = (r.row, r.first) }
 
 pub groups-requires-2 : goal.groups-requires-2
 groups-requires-2 c =
     let r = rights c.args.tree.now.sided.good c.requires.judged.0 in
-    record { near = c.requires.near; end = (r.row, r.second, c.new-hs.ensures) }
+    record { near = c.requires.near; end = (r.row, r.second) }
 
 pub distance_each-requires : goal.distance_each-requires
 distance_each-requires c = (

@@ -11,6 +11,6 @@ way-requires c = record {
       touch = c.requires.end.1.touch;
     },
     c.requires.end.1.aim c.in-Some.b c.in-Some.is,
-    c.requires.end.2,
+    c.clear.ensures,
   );
 }
