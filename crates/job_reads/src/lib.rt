@@ -70,7 +70,9 @@ fn keep_table(at: usize, n: usize, t: &[u8], table: &mut [u8]) -> Result<Next, R
     put_table(at, n, t, table)
 }
 
-// The table.
+// The table. It is called and not inlined, so that what its check takes of the
+// stack is not there when a move is listed.
+#[inline(never)]
 #[tactic(auto, unfolding(calls::specs::Calls::judged))]
 pub fn read_table(job: &[u8], at: usize, n: usize, table: &mut [u8]) -> Result<Next, Refusal>
     requires { let l = length job.now in (at < l) × (l ≤ longest) × (4 ≤ n) × (n ≤ most) }
