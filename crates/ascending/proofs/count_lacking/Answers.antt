@@ -1,6 +1,5 @@
 -- `ascending::count_lacking` meets its contract.
-use Rattle.std.proofs.Common.{rules, ◌∷◌, Less, Equal, Greater, sym}
-use Rattle.std.proofs.lemmas.Cmp.{ranked}
+use Rattle.std.proofs.Common.{rules, ◌∷◌, arith}
 use Rattle.ascending.proofs.Lacking.{Compared, compared_pass, compared_both, compared_alone}
 use Rattle.ascending.proofs.Lacking.{compared_left, compared_right}
 use Rattle.ascending.proofs.count_lacking.Goals as goal
@@ -13,23 +12,21 @@ stage : (c : In-Some-Some)
     (two.y.now ∷ two.ys.now)
 stage c = rw (c.in-Some-Some.ensures.cases.0, c.in-Some-Some.ensures'.cases.0) at c.loop-x.invariant
 
-pub loop-x-preserved-in-Less : goal.loop-x-preserved-in-Less
-loop-x-preserved-in-Less c =
-    let at = (goal.at.loop-x-preserved-in-Less c).In-Some-Some in
-    rw c.in-Some-Some.ensures'.cases.0
-    (compared_alone (stage at) (ranked _ _ Less c.in-Less.ensures))
+pub loop-x-preserved-then-y-x : goal.loop-x-preserved-then-y-x
+loop-x-preserved-then-y-x c =
+    let at = (goal.at.loop-x-preserved-then-y-x c).In-Some-Some in
+    rw c.in-Some-Some.ensures.cases.0 (compared_pass (stage at) c.if-y-x.true)
 
-pub loop-x-preserved-in-Equal : goal.loop-x-preserved-in-Equal
-loop-x-preserved-in-Equal c =
-    let at = (goal.at.loop-x-preserved-in-Equal c).In-Some-Some in
-    rw c.in-Some-Some.ensures'.cases.0
-    (compared_both (stage at) (sym (ranked _ _ Equal c.in-Equal.ensures)))
+pub loop-x-preserved-then-y-x-2 : goal.loop-x-preserved-then-y-x-2
+loop-x-preserved-then-y-x-2 c =
+    let at = (goal.at.loop-x-preserved-then-y-x-2 c).In-Some-Some in
+    rw c.in-Some-Some.ensures'.cases.0 (compared_both (stage at) c.if-y-x-2.true)
 
 pub loop-x-preserved : goal.loop-x-preserved
 loop-x-preserved c =
     let at = (goal.at.loop-x-preserved c).In-Some-Some in
-    rw c.in-Some-Some.ensures.cases.0
-    (compared_pass (stage at) (ranked _ _ Greater c.in-Greater.ensures))
+    rw c.in-Some-Some.ensures'.cases.0
+    (compared_alone (stage at) (omega (arith, c.if-y-x.false, c.if-y-x-2.false)))
 
 pub returns : goal.returns
 returns c =
